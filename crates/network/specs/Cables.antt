@@ -38,3 +38,15 @@ around far rec b p = shown rec (far b p)
 -- the root's record: always C, 255 and the start
 abbrev pub rootOf : {V : Type 0} → Kind V → Record V
 rootOf k = record { status = C; par = 255; length = k .start }
+
+-- a cable of weight w is added between port p of board a and port q of board b
+pub record Adds (far : ℕ → ℕ → Option End) (a p b q w : ℕ) (after : ℕ → ℕ → Option End) : Type 0 where
+  pub one-end : after a p ≡ Some (endAt b q w)
+  pub other-end : after b q ≡ Some (endAt a p w)
+  pub rest : (c r : ℕ) → ((c ≡ a) × (r ≡ p) → ⊥) → ((c ≡ b) × (r ≡ q) → ⊥) → after c r ≡ far c r
+
+-- the cable between port p of board a and its far end e is removed, and both ports are free
+pub record Removes (far : ℕ → ℕ → Option End) (a p : ℕ) (e : End) (after : ℕ → ℕ → Option End) : Type 0 where
+  pub one-end : after a p ≡ None
+  pub other-end : after (e .board) (e .port) ≡ None
+  pub rest : (c r : ℕ) → ((c ≡ a) × (r ≡ p) → ⊥) → ((c ≡ e .board) × (r ≡ e .port) → ⊥) → after c r ≡ far c r

@@ -1,5 +1,7 @@
 ghost use mathlib.Core.Path.{_≡_};
-ghost use Rattle.rules.specs.Status.{same};
+ghost use Prim.Native.Nat.{_≤_};
+ghost use Rattle.std.specs.Options.{Cases};
+ghost use Rattle.rules.specs.Status.{numberOf, same};
 
 // What a board believes of its way: I has none, C has one, EB has lost it and tells its children, EF has heard them all confirm.
 #[derive(Clone, Copy)]
@@ -11,6 +13,31 @@ pub enum Status {
 }
 
 impl Status {
+    // The number that stands for the status in a frame or a script.
+    pub fn number(self) -> u32
+        ensures { λ r. ⌜ r ≡ numberOf self ⌝ }
+    {
+        match self {
+            Status::I => 0,
+            Status::C => 1,
+            Status::EB => 2,
+            Status::EF => 3,
+        }
+    }
+
+    // The status of a number, or nothing from 4 on.
+    pub fn numbered(number: u32) -> Option<Status>
+        ensures { λ r. ⌜ Cases r (4 ≤ number) (λ s. numberOf s ≡ number) ⌝ }
+    {
+        match number {
+            0 => Some(Status::I),
+            1 => Some(Status::C),
+            2 => Some(Status::EB),
+            3 => Some(Status::EF),
+            _ => None,
+        }
+    }
+
     pub fn is(self, other: Status) -> bool
         ensures { λ r. ⌜ r ≡ same self other ⌝ }
     {

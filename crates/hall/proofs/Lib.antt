@@ -1,0 +1,4 @@
+pub mod Beginning
+pub mod CableLaw
+pub mod Rewiring
+pub mod Verdicts

@@ -1,0 +1,65 @@
+-- From what the rules say of a neighbourhood to what a hall says of a board.
+use mathlib.Core.Path.{_≡_, refl, sym, ap, ap₂, subst, _∙_}
+use mathlib.Core.Bool.{Bool, true, false, _&&_, _||_}
+use mathlib.Core.Logic.{by-cases}
+use Prim.Native.Nat.{ℕ, _+_, _<_}
+use native.Mathlib.Decide.{ℕ-discrete}
+use native.Mathlib.Omega.{arith}
+use lib.Dec.{eqb, ltb}
+use borrow.Author.Tests.{both-ways, eq-eqb, ne-eqb, lt-ltb}
+use Rattle.std.specs.Options.{isSome}
+use Rattle.std.specs.declared.option.Option.{Option}
+use Rattle.std.specs.declared.option.Option.the-variants.{Some, None}
+use Rattle.lengths.specs.Kind.{Kind}
+use Rattle.rules.specs.Rules.{Judged}
+use Rattle.rules.specs.declared.record.Record.{Record}
+use Rattle.rules.specs.declared.record.Verdict.{Verdict}
+use Rattle.network.specs.Cables.{around}
+use Rattle.sets.specs.Sets.{has}
+use Rattle.sets.proofs.Members.{has-zero}
+use Rattle.hall.specs.Hall.{boardsIn, farIn, recordsIn, VerdictIn, IsVerdict}
+use Rattle.hall.specs.declared.tables.Hall.{Hall}
+
+is-verdict : {V : Type 0} (k : Kind V) (h : Hall V) (b : ℕ) → b < boardsIn h → (b ≡ 0 → ⊥) → (r : Option Verdict) → Judged k (recordsIn k h b) (around (farIn h) (recordsIn k h) b) r → IsVerdict k h b r
+is-verdict k h b lt ne None j = λ v x. j v (x .2)
+is-verdict k h b lt ne (Some v) j = (lt, ne, j)
+
+pub verdict-of : {V : Type 0} (k : Kind V) (h : Hall V) (b : ℕ) → b < boardsIn h → (b ≡ 0 → ⊥) → (own : Record V) → own ≡ recordsIn k h b → (r : Option Verdict) → Judged k own (around (farIn h) (recordsIn k h) b) r → IsVerdict k h b r
+verdict-of k h b lt ne own e r j = is-verdict k h b lt ne r (subst (λ x. Judged k x (around (farIn h) (recordsIn k h) b) r) e j)
+
+or-true : (x : Bool) → (x || true) ≡ true
+or-true true = refl
+or-true false = refl
+
+or-false : (x : Bool) → (x || false) ≡ x
+or-false true = refl
+or-false false = refl
+
+-- s holds just the enabled boards among those below m
+pub record EnabledBelow {V : Type 0} (k : Kind V) (h : Hall V) (m s : ℕ) : Type 0 where
+  pub all : (b : ℕ) (v : Verdict) → b < m → VerdictIn k h b v → has s b ≡ true
+  pub only : (b : ℕ) → has s b ≡ true → (v : Verdict) × VerdictIn k h b v
+
+pub none-yet : {V : Type 0} (k : Kind V) (h : Hall V) → EnabledBelow k h 0 0
+none-yet k h = record {
+  all = λ b v lt x. absurd (omega arith);
+  only = λ b e. absurd (both-ways (has 0 b) (has-zero b) e);
+}
+
+pub passed-over : {V : Type 0} (k : Kind V) (h : Hall V) (m s : ℕ) → EnabledBelow k h m s → (r : Option Verdict) → IsVerdict k h m r → isSome r ≡ false → EnabledBelow k h (m + 1) s
+passed-over k h m s i None j e = record {
+  all = λ b v lt x. by-cases (ℕ-discrete b m) (λ same. absurd (j v (subst (λ y. VerdictIn k h y v) same x))) (λ ne. i .all b v (omega arith) x);
+  only = i .only;
+}
+passed-over k h m s i (Some v) j e = absurd (both-ways true e refl)
+
+pub one-more : {V : Type 0} (k : Kind V) (h : Hall V) (m s t : ℕ) → EnabledBelow k h m s → m < 64 → ((b : ℕ) → has t b ≡ (has s b || (eqb b m && ltb m 64))) → (r : Option Verdict) → IsVerdict k h m r → isSome r ≡ true → EnabledBelow k h (m + 1) t
+one-more k h m s t i lt w None j e = absurd (both-ways false refl e)
+one-more k h m s t i lt w (Some v) j e = record {
+  all = λ b u below x. by-cases (ℕ-discrete b m)
+      (λ same. w b ∙ ap (λ y. has s b || y) (ap₂ _&&_ (eq-eqb b m same) (lt-ltb m 64 lt)) ∙ or-true (has s b))
+      (λ ne. w b ∙ ap (λ y. y || (eqb b m && ltb m 64)) (i .all b u (omega arith) x));
+  only = λ b y. by-cases (ℕ-discrete b m)
+      (λ same. (v, subst (λ z. VerdictIn k h z v) (sym same) j))
+      (λ ne. i .only b (sym (or-false (has s b)) ∙ ap (λ z. has s b || z) (sym (ap (λ z. z && ltb m 64) (ne-eqb b m ne))) ∙ sym (w b) ∙ y));
+}

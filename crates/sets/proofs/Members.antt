@@ -1,0 +1,95 @@
+-- What the operations on bits do to membership.
+use mathlib.Core.Path.{_≡_, refl, sym, ap, ap₂, subst, _∙_}
+use mathlib.Core.Bool.{Bool, true, false, _&&_, _||_}
+use mathlib.Core.Logic.{⊎-elim, by-cases}
+use Prim.Native.Nat.{ℕ, zero, suc, _+_, _-_, _*_, _/_, _%_, _^_, _<_, _≤_, max}
+use native.Mathlib.Decide.{ℕ-discrete}
+use native.Mathlib.Omega.{arith}
+use native.Mathlib.Nat.{pow-succ', one-mul, zero-add, mod-one}
+use native.Mathlib.Numerals.{one-add}
+use lib.Bits.{bitOr, or-shr, or-step}
+use lib.Count.{ones, ones-cat}
+use lib.Dec.{eqb, ltb}
+use lib.Pow.{pow-mono, pow-lt}
+use borrow.Author.Tests.{eq-eqb, ne-eqb, lt-ltb, both-ways}
+use Rattle.std.proofs.shelf.Bits.{pow-pos, pow-add, shl-shr, div-below, mod-below, mod-pow-add}
+use Rattle.std.proofs.str.Laws.{order}
+use Rattle.network.specs.Turns.{Count}
+use Rattle.network.specs.Turns.Count.{nobody, one-such, not-such}
+use Rattle.sets.specs.Sets.{has}
+
+-- a quotient by more than the number
+under : (n k : ℕ) → n < k → n / k ≡ 0
+under n k h = let q : n / k < 1 = div-below n k 1 (omega arith) (omega arith) in omega arith
+
+-- no number from 64 on has a bit in a u64
+pub none-past : (s b : ℕ) → s < 2 ^ 64 → 64 ≤ b → has s b ≡ false
+none-past s b small far =
+    let more : 2 ^ 64 ≤ 2 ^ b = pow-mono far in
+    let none : s / 2 ^ b ≡ 0 = under s (2 ^ b) (omega arith) in
+    ap (λ q. eqb (q % 2) 1) none
+
+-- the bits of a power of two
+low : (b c j : ℕ) → b ≡ suc j + c → 2 ^ b / 2 ^ c % 2 ≡ 0
+low b c j e =
+    let split : 2 ^ b / 2 ^ c ≡ 2 ^ suc j = ap (λ x. 2 ^ x / 2 ^ c) e ∙ ap (λ x. x / 2 ^ c) (pow-add 2 (suc j) c) ∙ shl-shr (2 ^ suc j) c in
+    let even : 2 ^ suc j ≡ 2 * 2 ^ j = pow-succ' 2 j in
+    omega arith
+
+pub own-bit : (b : ℕ) → has (2 ^ b) b ≡ true
+own-bit b = let e : 2 ^ b / 2 ^ b ≡ 1 = ap (λ x. x / 2 ^ b) (sym (one-mul (2 ^ b))) ∙ shl-shr 1 b in ap (λ q. eqb (q % 2) 1) e
+
+pub other-bit : (b c : ℕ) → (c ≡ b → ⊥) → has (2 ^ b) c ≡ false
+other-bit b c ne =
+    ⊎-elim
+    (λ (lt : c < b). let e : 2 ^ b / 2 ^ c % 2 ≡ 0 = low b c (b - c - 1) (omega arith) in ap (λ q. eqb q 1) e)
+    (λ (ge : b ≤ c). let lt : b < c = omega arith in let e = under (2 ^ b) (2 ^ c) (pow-lt lt) in ap (λ q. eqb (q % 2) 1) e)
+    (order c b)
+
+-- a digit of `or` is the greater of the two digits
+or-digit : (a b : ℕ) → bitOr a b % 2 ≡ max (a % 2) (b % 2)
+or-digit a b = let s = or-step a b in omega arith
+
+either : (x y : ℕ) → x < 2 → y < 2 → eqb (max x y) 1 ≡ (eqb x 1 || eqb y 1)
+either zero zero p q = refl
+either zero (suc zero) p q = refl
+either zero (suc (suc y)) p q = absurd (omega arith)
+either (suc zero) zero p q = refl
+either (suc zero) (suc zero) p q = refl
+either (suc zero) (suc (suc y)) p q = absurd (omega arith)
+either (suc (suc x)) y p q = absurd (omega arith)
+
+pub has-or : (s t b : ℕ) → has (bitOr s t) b ≡ (has s b || has t b)
+has-or s t b =
+    let d : bitOr s t / 2 ^ b % 2 ≡ max (s / 2 ^ b % 2) (t / 2 ^ b % 2) = ap (λ x. x % 2) (or-shr s t b) ∙ or-digit (s / 2 ^ b) (t / 2 ^ b) in
+    ap (λ x. eqb x 1) d ∙ either _ _ (omega arith) (omega arith)
+
+-- one board more
+pub has-with : (s b : ℕ) → b < 64 → (c : ℕ) → has (bitOr s (2 ^ b)) c ≡ (has s c || (eqb c b && ltb b 64))
+has-with s b small c =
+    let one : has (2 ^ b) c ≡ (eqb c b && ltb b 64) = by-cases (ℕ-discrete c b)
+    (λ e. ap (λ x. has (2 ^ b) x) e ∙ own-bit b ∙ sym (ap₂ _&&_ (eq-eqb c b e) (lt-ltb b 64 small)))
+    (λ ne. other-bit b c ne ∙ sym (ap (λ x. x && ltb b 64) (ne-eqb c b ne))) in
+    has-or s (2 ^ b) c ∙ ap (λ x. has s c || x) one
+
+-- the ones of a number are its members
+top : (s m a : ℕ) (t : Bool) → s / 2 ^ m % 2 ≡ a → eqb a 1 ≡ t → a < 2 → Count (λ b. has s b ≡ true) m (ones (s % 2 ^ m)) → Count (λ b. has s b ≡ true) (suc m) (ones a + ones (s % 2 ^ m))
+unfolding ones
+top s m zero t e is small c = subst (λ x. Count (λ b. has s b ≡ true) (suc m) x) (sym (zero-add _)) (not-such c (λ h. both-ways _ (ap (λ x. eqb x 1) e) h))
+top s m (suc zero) t e is small c = subst (λ x. Count (λ b. has s b ≡ true) (suc m) x) (sym (one-add _)) (one-such c (ap (λ x. eqb x 1) e))
+top s m (suc (suc a)) t e is small c = absurd (omega arith)
+
+members : (s m : ℕ) → Count (λ b. has s b ≡ true) m (ones (s % 2 ^ m))
+unfolding ones
+members s zero = subst (λ x. Count (λ b. has s b ≡ true) 0 x) (sym (ap ones (mod-one s))) nobody
+members s (suc m) =
+    let split : s % 2 ^ suc m ≡ (s / 2 ^ m % 2) * 2 ^ m + s % 2 ^ m = ap (λ x. s % 2 ^ x) (sym (one-add m)) ∙ mod-pow-add s 1 m in
+    let below : s % 2 ^ m < 2 ^ m = mod-below s (2 ^ m) (pow-pos m) in
+    subst (λ x. Count (λ b. has s b ≡ true) (suc m) x) (sym (ap ones split ∙ ones-cat m (s / 2 ^ m % 2) (s % 2 ^ m) below))
+    (top s m (s / 2 ^ m % 2) _ refl refl (omega arith) (members s m))
+
+pub counted : (s : ℕ) → s < 2 ^ 64 → Count (λ b. has s b ≡ true) 64 (ones s)
+counted s small = subst (λ x. Count (λ b. has s b ≡ true) 64 (ones x)) (let e : s % 2 ^ 64 ≡ s = omega arith in e) (members s 64)
+
+pub has-zero : (b : ℕ) → has 0 b ≡ false
+has-zero b = ap (λ q. eqb (q % 2) 1) (under 0 (2 ^ b) (pow-pos b))

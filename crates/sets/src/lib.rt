@@ -1,0 +1,28 @@
+// Sets of boards as the bits of a u64: bit b stands for board b.
+ghost use mathlib.Core.Path.{_≡_};
+ghost use mathlib.Core.Bool.{true, _&&_, _||_};
+ghost use Prim.Native.Nat.{ℕ, _<_};
+ghost use lib.Dec.{eqb, ltb};
+ghost use Rattle.network.specs.Turns.{Count};
+ghost use Rattle.sets.specs.Sets.{has};
+
+// Whether the board is in the set.
+pub fn contains(set: u64, board: u32) -> bool
+    ensures { λ r. ⌜ r ≡ has set board ⌝ }
+{
+    board < 64 && (set >> board) % 2 == 1
+}
+
+// The set with one board more; a number that no bit stands for adds nothing.
+pub fn with(set: u64, board: u32) -> u64
+    ensures { λ r. ⌜ ((b : ℕ) → has r b ≡ (has set b || (eqb b board && ltb board 64))) ⌝ }
+{
+    if board < 64 { set | 1 << board } else { set }
+}
+
+// How many boards the set has.
+pub fn size(set: u64) -> u32
+    ensures { λ r. ⌜ Count (λ b. has set b ≡ true) 64 r ⌝ }
+{
+    set.count_ones()
+}
