@@ -1,4 +1,5 @@
 pub mod Beginning
 pub mod CableLaw
+pub mod Midway
 pub mod Rewiring
 pub mod Verdicts

@@ -2,8 +2,8 @@
 use mathlib.Core.Path.{_≡_, refl, sym, ap, ap₂, subst, _∙_}
 use mathlib.Core.Bool.{Bool, true, false, _&&_, _||_}
 use mathlib.Core.Logic.{by-cases}
-use Prim.Native.Nat.{ℕ, _+_, _<_}
-use native.Mathlib.Decide.{ℕ-discrete}
+use Prim.Native.Nat.{ℕ, _+_, _<_, _≤_}
+use native.Mathlib.Decide.{ℕ-discrete, decLt}
 use native.Mathlib.Omega.{arith}
 use lib.Dec.{eqb, ltb}
 use borrow.Author.Tests.{both-ways, eq-eqb, ne-eqb, lt-ltb}
@@ -11,13 +11,14 @@ use Rattle.std.specs.Options.{isSome}
 use Rattle.std.specs.declared.option.Option.{Option}
 use Rattle.std.specs.declared.option.Option.the-variants.{Some, None}
 use Rattle.lengths.specs.Kind.{Kind}
-use Rattle.rules.specs.Rules.{Judged}
+use Rattle.rules.specs.Rules.{Judged, Moves}
 use Rattle.rules.specs.declared.record.Record.{Record}
 use Rattle.rules.specs.declared.record.Verdict.{Verdict}
 use Rattle.network.specs.Cables.{around}
+use Rattle.network.specs.declared.End.{End}
 use Rattle.sets.specs.Sets.{has}
 use Rattle.sets.proofs.Members.{has-zero}
-use Rattle.hall.specs.Hall.{boardsIn, farIn, recordsIn, VerdictIn, IsVerdict}
+use Rattle.hall.specs.Hall.{boardsIn, farIn, recordsIn, VerdictIn, IsVerdict, MoveOn, AllThere}
 use Rattle.hall.specs.declared.tables.Hall.{Hall}
 
 is-verdict : {V : Type 0} (k : Kind V) (h : Hall V) (b : ℕ) → b < boardsIn h → (b ≡ 0 → ⊥) → (r : Option Verdict) → Judged k (recordsIn k h b) (around (farIn h) (recordsIn k h) b) r → IsVerdict k h b r
@@ -63,3 +64,21 @@ one-more k h m s t i lt w (Some v) j e = record {
       (λ same. (v, subst (λ z. VerdictIn k h z v) (sym same) j))
       (λ ne. i .only b (sym (or-false (has s b)) ∙ ap (λ z. has s b || z) (sym (ap (λ z. z && ltb m 64) (ne-eqb b m ne))) ∙ sym (w b) ∙ y));
 }
+
+on-these : {V : Type 0} (k : Kind V) (n : ℕ) (far : ℕ → ℕ → Option End) (rec : ℕ → Record V) (b : ℕ) → b < n → (b ≡ 0 → ⊥) → (r : Option Verdict) (next : Record V) → Moves k (rec b) (around far rec b) r next → MoveOn k n far rec b r next
+on-these k n far rec b lt ne None next m = (λ v x. m .0 v (x .2), m .1)
+on-these k n far rec b lt ne (Some v) next m = ((lt, ne, m .0), m .1)
+
+pub move-of : {V : Type 0} (k : Kind V) (n : ℕ) (far : ℕ → ℕ → Option End) (rec : ℕ → Record V) (b : ℕ) → b < n → (b ≡ 0 → ⊥) → (own : Record V) → own ≡ rec b → (r : Option Verdict) (next : Record V) → Moves k own (around far rec b) r next → MoveOn k n far rec b r next
+move-of k n far rec b lt ne own e r next m = on-these k n far rec b lt ne r next (subst (λ x. Moves k x (around far rec b) r next) e m)
+
+-- one board more of s is enabled, or not in it
+pub enabled-more : {V : Type 0} (k : Kind V) (h : Hall V) (s m : ℕ) → ((b : ℕ) → b < m → has s b ≡ true → (v : Verdict) × VerdictIn k h b v) → (has s m ≡ true → (v : Verdict) × VerdictIn k h m v) → (b : ℕ) → b < m + 1 → has s b ≡ true → (v : Verdict) × VerdictIn k h b v
+enabled-more k h s m below here b lt in-s =
+    by-cases (ℕ-discrete b m)
+    (λ e. subst (λ x. (v : Verdict) × VerdictIn k h x v) (sym e) (here (ap (has s) (sym e) ∙ in-s)))
+    (λ ne. below b (omega arith) in-s)
+
+-- nothing of s from n on: every board of it is there
+pub all-there : {V : Type 0} (h : Hall V) (s m : ℕ) → m ≡ boardsIn h → ((b : ℕ) → m ≤ b → has s b ≡ false) → AllThere h s
+all-there h s m e none b in-s = by-cases (decLt b (boardsIn h)) (λ lt. lt) (λ ge. absurd (both-ways (has s b) (none b (omega arith)) in-s))

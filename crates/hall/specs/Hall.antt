@@ -4,7 +4,7 @@ use mathlib.Core.Bool.{Bool, true, false, cond, not, _&&_, _||_}
 use mathlib.Core.List.{List, [], _∷_}
 use Prim.Native.Nat.{ℕ, _+_, _-_, _<_, _≤_, _^_, min}
 use lib.Dec.{leb, ltb, eqb}
-use lib.ListN.{getD}
+use lib.ListN.{length, getD, set}
 use Rattle.std.specs.Options.{isSome}
 use Rattle.std.specs.declared.option.Option.{Option}
 use Rattle.std.specs.declared.option.Option.the-variants.{Some, None}
@@ -16,7 +16,8 @@ use Rattle.rules.specs.declared.record.Record.{Record}
 use Rattle.rules.specs.declared.record.Status.the-variants.{I, C}
 use Rattle.rules.specs.declared.record.Verdict.{Verdict}
 use Rattle.rules.specs.declared.record.Verdict.the-variants.{RC, REB, REF, RI, RR}
-use Rattle.network.specs.Cables.{Adds, Removes, rootOf}
+use Rattle.rules.specs.Rules.{Effect}
+use Rattle.network.specs.Cables.{Adds, Removes, around, rootOf}
 use Rattle.network.specs.Turns.{HasVerdict, Turn, aliveRoot, used, Count}
 use Rattle.network.specs.declared.End.{End}
 use Rattle.sets.specs.Sets.{has}
@@ -141,6 +142,15 @@ abbrev pub IsVerdict : {V : Type 0} → Kind V → Hall V → ℕ → Option Ver
 IsVerdict k h b None = (v : Verdict) → VerdictIn k h b v → ⊥
 IsVerdict k h b (Some v) = VerdictIn k h b v
 
+-- r is board b's verdict on these cables and records, and next its record after moving by it
+abbrev pub MoveOn : {V : Type 0} → Kind V → ℕ → (ℕ → ℕ → Option End) → (ℕ → Record V) → ℕ → Option Verdict → Record V → Type 0
+MoveOn k n far rec b None next = ((v : Verdict) → HasVerdict k n far rec b v → ⊥) × (next ≡ rec b)
+MoveOn k n far rec b (Some v) next = HasVerdict k n far rec b v × Effect k (rec b) (around far rec b) v next
+
+-- board b's move: by its verdict, or none
+abbrev pub MoveIn : {V : Type 0} → Kind V → Hall V → ℕ → Option Verdict → Record V → Type 0
+MoveIn k h = MoveOn k (boardsIn h) (farIn h) (recordsIn k h)
+
 -- look: the record, the verdict and whether it is an alive abnormal root
 abbrev pub Looks : {V : Type 0} → Kind V → Hall V → ℕ → Result (Look V) Fault → Type 0
 Looks k h b (Ok l) = (b < boardsIn h) × (l .record ≡ recordsIn k h b) × IsVerdict k h b (l .verdict) × (l .alive ≡ aliveRoot k (farIn h) (recordsIn k h) b)
@@ -156,14 +166,40 @@ pub record EnabledSet {V : Type 0} (k : Kind V) (h : Hall V) (s : ℕ) : Type 0 
   pub all : (b : ℕ) (v : Verdict) → VerdictIn k h b v → has s b ≡ true
   pub only : (b : ℕ) → has s b ≡ true → (v : Verdict) × VerdictIn k h b v
 
--- the boards of s move together, each by its verdict on the records before, and the tallies count the moves
+-- a count after a turn: one more where the board moved by that rule, stopping at 2^64 - 1
+abbrev pub counted : ℕ → Option Verdict → Verdict → ℕ
+counted c by v = cond (eqb (used by v) 1) (min (c + 1) (2 ^ 64 - 1)) c
+
+-- some board of s has no verdict
+pub record SomeDisabled {V : Type 0} (k : Kind V) (h : Hall V) (s : ℕ) : Type 0 where
+  pub board : ℕ
+  pub chosen : has s board ≡ true
+  pub idle : (v : Verdict) → VerdictIn k h board v → ⊥
+
+-- what board b moves by, where `chosen` says whether it is to move: its verdict, or nothing
+abbrev pub MovesBy : {V : Type 0} → Kind V → Hall V → Bool → ℕ → Option Verdict → Type 0
+MovesBy k h true b r = IsVerdict k h b r
+MovesBy k h false b r = r ≡ None
+
+-- of the boards of s, those that have a verdict move together, each by its verdict on the records before, and the tallies count the moves
 pub record Turned {V : Type 0} (k : Kind V) (before : Hall V) (s : ℕ) (after : Hall V) : Type 0 where
   pub by : ℕ → Option Verdict
-  pub movers : (b : ℕ) → isSome (by b) ≡ has s b
+  pub movers : (b : ℕ) → MovesBy k before (has s b) b (by b)
   pub moves : Turn k (boardsIn before) (farIn before) (recordsIn k before) by (recordsIn k after)
-  pub boards : boardsIn after ≡ boardsIn before
-  pub cables : SameCables before after
-  pub counts : (b : ℕ) (v : Verdict) → countsIn after b v ≡ min (countsIn before b v + used (by b) v) (2 ^ 64 - 1)
+  pub cabling : after .cabling ≡ before .cabling
+  pub counts : (b : ℕ) (v : Verdict) → countsIn after b v ≡ counted (countsIn before b v) (by b) v
+
+-- board b's record and tally are new, and nothing else
+pub record Noted {V : Type 0} (before : Hall V) (b : ℕ) (next : Record V) (rule : Verdict) (after : Hall V) : Type 0 where
+  pub cabling : after .cabling ≡ before .cabling
+  pub records : after .ledger .records ≡ set (before .ledger .records) b next
+  pub whole : length (before .ledger .records) ≡ 64
+  pub counts : (v : Verdict) → countsIn after b v ≡ counted (countsIn before b v) (Some rule) v
+  pub others : (o : ℕ) → (o ≡ b → ⊥) → getD (after .tallies) o nothing ≡ getD (before .tallies) o nothing
+
+-- every board of s is enabled
+abbrev pub AllEnabled : {V : Type 0} → Kind V → Hall V → ℕ → Type 0
+AllEnabled k h s = (b : ℕ) → has s b ≡ true → (v : Verdict) × VerdictIn k h b v
 
 -- every board of s is there
 abbrev pub AllThere : {V : Type 0} → Hall V → ℕ → Type 0
@@ -173,9 +209,9 @@ AllThere h s = (b : ℕ) → has s b ≡ true → b < boardsIn h
 pub data TurnFault {V : Type 0} (k : Kind V) (h : Hall V) (s : ℕ) : Fault → Type 0 where
   beyond : (b : ℕ) → has s b ≡ true → boardsIn h ≤ b → TurnFault k h s Board
   nobody : s ≡ 0 → TurnFault k h s Empty
-  disabled : AllThere h s → (b : ℕ) → has s b ≡ true → ((v : Verdict) → VerdictIn k h b v → ⊥) → TurnFault k h s Disabled
+  disabled : AllThere h s → SomeDisabled k h s → TurnFault k h s Disabled
 
 -- turn: the answer is how many moved
 abbrev pub Turns : {V : Type 0} → Kind V → Hall V → ℕ → Result ℕ Fault → Hall V → Type 0
-Turns k before s (Ok m) after = AllThere before s × (s ≡ 0 → ⊥) × Turned k before s after × Count (λ b. has s b ≡ true) 64 m
+Turns k before s (Ok m) after = AllEnabled k before s × (s ≡ 0 → ⊥) × Turned k before s after × Count (λ b. has s b ≡ true) 64 m
 Turns k before s (Err f) after = TurnFault k before s f × (after ≡ before)

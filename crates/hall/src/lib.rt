@@ -4,7 +4,7 @@ mod changes;
 mod fault;
 mod questions;
 mod tables;
-//mod turns;
+mod turns;
 mod view;
 
 pub use fault::Fault;

@@ -25,7 +25,7 @@ pub struct Look<L> {
 }
 
 impl<L: Length> Hall<L> {
-    fn verdict_at(&self, board: u32) -> Option<Verdict>
+    pub(crate) fn verdict_at(&self, board: u32) -> Option<Verdict>
         requires { ⌜ board < boardsIn (now self) ⌝ }
         ensures { λ r. ⌜ IsVerdict (L·Length .meaning) (now (self .entry)) board r ⌝ }
     {

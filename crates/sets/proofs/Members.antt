@@ -5,18 +5,18 @@ use mathlib.Core.Logic.{⊎-elim, by-cases}
 use Prim.Native.Nat.{ℕ, zero, suc, _+_, _-_, _*_, _/_, _%_, _^_, _<_, _≤_, max}
 use native.Mathlib.Decide.{ℕ-discrete}
 use native.Mathlib.Omega.{arith}
-use native.Mathlib.Nat.{pow-succ', one-mul, zero-add, mod-one}
+use native.Mathlib.Nat.{pow-succ', pow-zero, one-mul, zero-add, mod-one, div-one}
 use native.Mathlib.Numerals.{one-add}
 use lib.Bits.{bitOr, or-shr, or-step}
-use lib.Count.{ones, ones-cat}
+use lib.Count.{ones, ones-cat, trailingZeros, under as above}
 use lib.Dec.{eqb, ltb}
 use lib.Pow.{pow-mono, pow-lt}
 use borrow.Author.Tests.{eq-eqb, ne-eqb, lt-ltb, both-ways}
-use Rattle.std.proofs.shelf.Bits.{pow-pos, pow-add, shl-shr, div-below, mod-below, mod-pow-add}
+use Rattle.std.proofs.shelf.Bits.{pow-pos, pow-add, shl-shr, shr-shr, div-below, mod-below, mod-pow-add}
 use Rattle.std.proofs.str.Laws.{order}
 use Rattle.network.specs.Turns.{Count}
 use Rattle.network.specs.Turns.Count.{nobody, one-such, not-such}
-use Rattle.sets.specs.Sets.{has}
+use Rattle.sets.specs.Sets.{has, LeastFrom}
 
 -- a quotient by more than the number
 under : (n k : ℕ) → n < k → n / k ≡ 0
@@ -93,3 +93,49 @@ counted s small = subst (λ x. Count (λ b. has s b ≡ true) 64 (ones x)) (let 
 
 pub has-zero : (b : ℕ) → has 0 b ≡ false
 has-zero b = ap (λ q. eqb (q % 2) 1) (under 0 (2 ^ b) (pow-pos b))
+
+-- the bits of a quotient are the bits further up
+pub has-shr : (s from b : ℕ) → has (s / 2 ^ from) b ≡ has s (from + b)
+has-shr s from b = ap (λ q. eqb (q % 2) 1) (shr-shr s from b)
+
+halved : (x c : ℕ) → has (x / 2) c ≡ has x (suc c)
+halved x c = has-shr x 1 c ∙ ap (has x) (one-add c)
+
+lowest : (x : ℕ) → has x 0 ≡ eqb (x % 2) 1
+lowest x = ap (λ q. eqb (q % 2) 1) (div-one x)
+
+-- the trailing zeros of a number lead to its lowest bit
+pub record Lowest (x t : ℕ) : Type 0 where
+  pub there : has x t ≡ true
+  pub least : (c : ℕ) → c < t → has x c ≡ false
+
+trail : (x d t : ℕ) → x % 2 ≡ d → d < 2 → (d ≡ 0 → Lowest (x / 2) t) → Lowest x (above d t)
+trail x zero t e small rest =
+    let r = rest refl in
+    record {
+      there = sym (halved x t) ∙ r .there;
+      least = λ c lt. first c lt;
+    }
+  where
+    first : (c : ℕ) → c < suc t → has x c ≡ false
+    first zero lt = lowest x ∙ ap (λ q. eqb q 1) e
+    first (suc c) lt = sym (halved x c) ∙ rest refl .least c (omega arith)
+trail x (suc zero) t e small rest = record { there = lowest x ∙ ap (λ q. eqb q 1) e; least = λ c lt. absurd (omega arith) }
+trail x (suc (suc d)) t e small rest = absurd (omega arith)
+
+pub trailing : (k x : ℕ) → x < 2 ^ k → (x ≡ 0 → ⊥) → Lowest x (trailingZeros k x)
+unfolding trailingZeros
+trailing zero x small ne = absurd (ne (omega (arith, pow-zero 2)))
+trailing (suc k) x small ne = trail x (x % 2) (trailingZeros k (x / 2)) refl (omega arith) (λ e. trailing k (x / 2) (omega (arith, pow-succ' 2 k)) (λ z. ne (omega arith)))
+
+pub least-from : (s from : ℕ) → s / 2 ^ from < 2 ^ 64 → (s / 2 ^ from ≡ 0 → ⊥) → LeastFrom s from (from + trailingZeros 64 (s / 2 ^ from))
+least-from s from small ne =
+    let t = trailing 64 (s / 2 ^ from) small ne in
+    record {
+      there = sym (has-shr s from _) ∙ t .there;
+      onward = omega arith;
+      least = λ c on lt. ap (has s) (let e : c ≡ from + (c - from) = omega arith in e) ∙ sym (has-shr s from (c - from)) ∙ t .least (c - from) (omega arith);
+    }
+
+pub none-from : (s from : ℕ) → s / 2 ^ from ≡ 0 → (b : ℕ) → from ≤ b → has s b ≡ false
+none-from s from e b on = ap (has s) (let e : b ≡ from + (b - from) = omega arith in e) ∙ sym (has-shr s from (b - from)) ∙ ap (λ x. has x (b - from)) e ∙ has-zero (b - from)
