@@ -1,3 +1,4 @@
 pub mod Cables
 pub mod Ways
 pub mod Turns
+pub mod Toil

@@ -1,0 +1,5 @@
+pub mod Misreads
+pub mod Sets
+pub mod Fields
+pub mod Commands
+pub mod Steps

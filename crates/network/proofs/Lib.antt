@@ -1,0 +1,12 @@
+pub mod Views
+pub mod Lengths
+pub mod Moves
+pub mod NoNewRoots
+pub mod Counts
+pub mod Held
+pub mod Stages
+pub mod ToilFalls
+pub mod Components
+pub mod Repairs
+pub mod Walks
+pub mod Settling

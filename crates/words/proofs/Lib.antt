@@ -1,0 +1,5 @@
+pub mod Unique
+mod Cutting
+mod Counting
+mod Testing
+mod Digits
