@@ -2,4 +2,5 @@ pub mod Beginning
 pub mod CableLaw
 pub mod Midway
 pub mod Rewiring
+pub mod Running
 pub mod Verdicts

@@ -23,7 +23,7 @@ inside ends rows b h =
     by-cases (decLt b (length ends)) (λ y. y)
     (λ out. let past : getD ends b [] ≡ [] = getD-past ends b [] (omega arith) in let l = ap length (sym past) ∙ rows b h in absurd (omega arith))
 
-spot : (c r a p : ℕ) → Dec ((c ≡ a) × (r ≡ p))
+pub spot : (c r a p : ℕ) → Dec ((c ≡ a) × (r ≡ p))
 spot c r a p = Dec·and (ℕ-discrete c a) (ℕ-discrete r p)
 
 pub put-rows : (ends : List (List (Option End))) → Rows ends → (b p : ℕ) (v : Option End) → b < 64 → Rows (put ends b p v)
@@ -102,7 +102,7 @@ module _ {far after : ℕ → ℕ → Option End} {n a p b q w : ℕ} (cab : Cab
 
 -- a cable less
 module _ {far after : ℕ → ℕ → Option End} {n a p : ℕ} {e : End} (cab : Cabled n far) (at : far a p ≡ Some e) (re : Removes far a p e after) where
-  was : (c r : ℕ) (x : End) → after c r ≡ Some x → far c r ≡ Some x
+  pub was : (c r : ℕ) (x : End) → after c r ≡ Some x → far c r ≡ Some x
   was c r x h =
       by-cases (spot c r a p)
       (λ s. absurd (clash (ap₂ after (s .0) (s .1) ∙ re .one-end) h))

@@ -2,7 +2,7 @@
 use mathlib.Core.Path.{_≡_, refl, sym, ap, ap₂, subst, _∙_}
 use mathlib.Core.Bool.{Bool, true, false, _&&_, _||_}
 use mathlib.Core.Logic.{by-cases}
-use Prim.Native.Nat.{ℕ, _+_, _<_, _≤_}
+use Prim.Native.Nat.{ℕ, _+_, _<_, _≤_, _^_}
 use native.Mathlib.Decide.{ℕ-discrete, decLt}
 use native.Mathlib.Omega.{arith}
 use lib.Dec.{eqb, ltb}
@@ -38,25 +38,29 @@ or-false false = refl
 
 -- s holds just the enabled boards among those below m
 pub record EnabledBelow {V : Type 0} (k : Kind V) (h : Hall V) (m s : ℕ) : Type 0 where
+  pub small : s < 2 ^ 64
   pub all : (b : ℕ) (v : Verdict) → b < m → VerdictIn k h b v → has s b ≡ true
   pub only : (b : ℕ) → has s b ≡ true → (v : Verdict) × VerdictIn k h b v
 
 pub none-yet : {V : Type 0} (k : Kind V) (h : Hall V) → EnabledBelow k h 0 0
 none-yet k h = record {
+  small = omega arith;
   all = λ b v lt x. absurd (omega arith);
   only = λ b e. absurd (both-ways (has 0 b) (has-zero b) e);
 }
 
 pub passed-over : {V : Type 0} (k : Kind V) (h : Hall V) (m s : ℕ) → EnabledBelow k h m s → (r : Option Verdict) → IsVerdict k h m r → isSome r ≡ false → EnabledBelow k h (m + 1) s
 passed-over k h m s i None j e = record {
+  small = i .small;
   all = λ b v lt x. by-cases (ℕ-discrete b m) (λ same. absurd (j v (subst (λ y. VerdictIn k h y v) same x))) (λ ne. i .all b v (omega arith) x);
   only = i .only;
 }
 passed-over k h m s i (Some v) j e = absurd (both-ways true e refl)
 
-pub one-more : {V : Type 0} (k : Kind V) (h : Hall V) (m s t : ℕ) → EnabledBelow k h m s → m < 64 → ((b : ℕ) → has t b ≡ (has s b || (eqb b m && ltb m 64))) → (r : Option Verdict) → IsVerdict k h m r → isSome r ≡ true → EnabledBelow k h (m + 1) t
-one-more k h m s t i lt w None j e = absurd (both-ways false refl e)
-one-more k h m s t i lt w (Some v) j e = record {
+pub one-more : {V : Type 0} (k : Kind V) (h : Hall V) (m s t : ℕ) → EnabledBelow k h m s → t < 2 ^ 64 → m < 64 → ((b : ℕ) → has t b ≡ (has s b || (eqb b m && ltb m 64))) → (r : Option Verdict) → IsVerdict k h m r → isSome r ≡ true → EnabledBelow k h (m + 1) t
+one-more k h m s t i small lt w None j e = absurd (both-ways false refl e)
+one-more k h m s t i small lt w (Some v) j e = record {
+  small = small;
   all = λ b u below x. by-cases (ℕ-discrete b m)
       (λ same. w b ∙ ap (λ y. has s b || y) (ap₂ _&&_ (eq-eqb b m same) (lt-ltb m 64 lt)) ∙ or-true (has s b))
       (λ ne. w b ∙ ap (λ y. y || (eqb b m && ltb m 64)) (i .all b u (omega arith) x));

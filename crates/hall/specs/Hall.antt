@@ -163,6 +163,7 @@ Tallies h b (Err f) = (f ≡ Board) × (boardsIn h ≤ b)
 
 -- s is the set of enabled boards
 pub record EnabledSet {V : Type 0} (k : Kind V) (h : Hall V) (s : ℕ) : Type 0 where
+  pub small : s < 2 ^ 64
   pub all : (b : ℕ) (v : Verdict) → VerdictIn k h b v → has s b ≡ true
   pub only : (b : ℕ) → has s b ≡ true → (v : Verdict) × VerdictIn k h b v
 

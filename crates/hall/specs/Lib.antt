@@ -1,3 +1,4 @@
 pub mod Tables
 pub mod Faults
 pub mod Hall
+pub mod Runs

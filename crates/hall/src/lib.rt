@@ -3,6 +3,7 @@ mod cabling;
 mod changes;
 mod fault;
 mod questions;
+mod settle;
 mod tables;
 mod turns;
 mod view;

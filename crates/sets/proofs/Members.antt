@@ -3,7 +3,7 @@ use mathlib.Core.Path.{_≡_, refl, sym, ap, ap₂, subst, _∙_}
 use mathlib.Core.Bool.{Bool, true, false, _&&_, _||_}
 use mathlib.Core.Logic.{⊎-elim, by-cases}
 use Prim.Native.Nat.{ℕ, zero, suc, _+_, _-_, _*_, _/_, _%_, _^_, _<_, _≤_, max}
-use native.Mathlib.Decide.{ℕ-discrete}
+use native.Mathlib.Decide.{ℕ-discrete, decLt}
 use native.Mathlib.Omega.{arith}
 use native.Mathlib.Nat.{pow-succ', pow-zero, one-mul, zero-add, mod-one, div-one}
 use native.Mathlib.Numerals.{one-add}
@@ -139,3 +139,11 @@ least-from s from small ne =
 
 pub none-from : (s from : ℕ) → s / 2 ^ from ≡ 0 → (b : ℕ) → from ≤ b → has s b ≡ false
 none-from s from e b on = ap (has s) (let e : b ≡ from + (b - from) = omega arith in e) ∙ sym (has-shr s from (b - from)) ∙ ap (λ x. has x (b - from)) e ∙ has-zero (b - from)
+
+-- a board of a set has its bit in a u64
+pub in-sixty-four : (s b : ℕ) → s < 2 ^ 64 → has s b ≡ true → b < 64
+in-sixty-four s b small in-s = by-cases (decLt b 64) (λ lt. lt) (λ ge. absurd (both-ways (has s b) (none-past s b small (omega arith)) in-s))
+
+-- a set that is not empty has a board
+pub some-board : (s : ℕ) → s < 2 ^ 64 → (s ≡ 0 → ⊥) → (b : ℕ) × (has s b ≡ true)
+some-board s small ne = (trailingZeros 64 s, trailing 64 s small ne .there)

@@ -15,6 +15,6 @@ loop-board-again g c =
     let b = c .loop-board .board in
     let j = c .verdict-at .ensures in
     elim (c .if-is-some .came) [
-      | then-is-some w ↦ subst (EnabledBelow k h (b + 1)) (sym (w .set-is)) (one-more k h b (c .loop-board .set) _ (c .loop-board .inv) (omega (arith, h .cabling .few)) (w .with-set .ensures) (c .verdict-at .result) j (sym (c .is-some .ensures) ∙ w .if-is-some .taken))
+      | then-is-some w ↦ subst (EnabledBelow k h (b + 1)) (sym (w .set-is)) (one-more k h b (c .loop-board .set) _ (c .loop-board .inv) (w .with-set .ok) (omega (arith, h .cabling .few)) (w .with-set .ensures) (c .verdict-at .result) j (sym (c .is-some .ensures) ∙ w .if-is-some .taken))
       | else-is-some w ↦ subst (EnabledBelow k h (b + 1)) (sym (w .set-is)) (passed-over k h b (c .loop-board .set) (c .loop-board .inv) (c .verdict-at .result) j (sym (c .is-some .ensures) ∙ w .if-is-some .left))
     ]
