@@ -19,9 +19,10 @@ use Rattle.rules.specs.declared.record.Verdict.{Verdict}
 use Rattle.network.specs.Cables.{Cabled, Weighed, Adds, Removes, endAt, rootOf}
 use Rattle.network.specs.Toil.{toil}
 use Rattle.network.specs.Turns as network
-use Rattle.network.specs.Turns.{Turn, Quiet, Repair, Count, AliveRoots, aliveRoot, used}
+use Rattle.network.specs.Turns.{Turn, Quiet, Repair, AliveRoots, aliveRoot, used}
 use Rattle.network.specs.Turns.Turns.{no-turn, one-more}
-use Rattle.network.specs.Turns.Count.{nobody, one-such, not-such}
+use Rattle.sets.specs.Counts.{Count}
+use Rattle.sets.specs.Counts.Count.{nobody, one-such, not-such}
 use Rattle.network.specs.declared.End.{End}
 use Rattle.network.proofs.NoNewRoots.{no-new-root}
 use Rattle.network.proofs.Repairs.{repairs}

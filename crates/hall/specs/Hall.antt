@@ -18,8 +18,9 @@ use Rattle.rules.specs.declared.record.Verdict.{Verdict}
 use Rattle.rules.specs.declared.record.Verdict.the-variants.{RC, REB, REF, RI, RR}
 use Rattle.rules.specs.Rules.{Effect}
 use Rattle.network.specs.Cables.{Adds, Removes, around, rootOf}
-use Rattle.network.specs.Turns.{HasVerdict, Turn, aliveRoot, used, Count}
+use Rattle.network.specs.Turns.{HasVerdict, Turn, aliveRoot, used}
 use Rattle.network.specs.declared.End.{End}
+use Rattle.sets.specs.Counts.{Count}
 use Rattle.sets.specs.Sets.{has}
 use Rattle.hall.specs.Faults.{Checks, refusal}
 use Rattle.hall.specs.Tables.{farOf, recOf}

@@ -7,7 +7,7 @@ use native.Mathlib.Decide.{decLt}
 use native.Mathlib.Omega.{arith}
 use borrow.Author.Tests.{both-ways}
 use Rattle.network.specs.Toil.{total}
-use Rattle.network.specs.Turns.{Count, nobody, one-such, not-such}
+use Rattle.sets.specs.Counts.{Count, nobody, one-such, not-such}
 
 -- what holds below n + 1 holds below n
 pub fewer : {P : ℕ → Type 0} (n : ℕ) → ((u : ℕ) → u < suc n → P u) → (u : ℕ) → u < n → P u

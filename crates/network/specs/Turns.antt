@@ -13,6 +13,7 @@ use Rattle.rules.specs.declared.record.Status.{Status}
 use Rattle.rules.specs.declared.record.Status.the-variants.{C, EB}
 use Rattle.rules.specs.declared.record.Verdict.{Verdict}
 use Rattle.rules.specs.declared.record.Verdict.the-variants.{RC, REB, REF, RI, RR}
+use Rattle.sets.specs.Counts.{Count}
 use Rattle.network.specs.Cables.{around}
 use Rattle.network.specs.Ways.{Joined}
 use Rattle.network.specs.declared.End.{End}
@@ -63,12 +64,6 @@ Repair RR = Unit {0}
 pub data Turns {V : Type 0} (k : Kind V) (n : ℕ) (far : ℕ → ℕ → Option End) (first : ℕ → Record V) : (ℕ → Record V) → (ℕ → Verdict → ℕ) → Type 0 where
   no-turn : Turns k n far first first (λ b v. 0)
   one-more : {rec : ℕ → Record V} {count : ℕ → Verdict → ℕ} → Turns k n far first rec count → (by : ℕ → Option Verdict) (after : ℕ → Record V) → Turn k n far rec by after → Turns k n far first after (λ b v. count b v + used (by b) v)
-
--- c of the numbers below n are such that P
-pub data Count (P : ℕ → Type 0) : ℕ → ℕ → Type 0 where
-  nobody : Count P 0 0
-  one-such : {n c : ℕ} → Count P n c → P n → Count P (suc n) (suc c)
-  not-such : {n c : ℕ} → Count P n c → (P n → ⊥) → Count P (suc n) c
 
 -- b's component has c alive abnormal roots
 abbrev pub AliveRoots : {V : Type 0} → Kind V → ℕ → (ℕ → ℕ → Option End) → (ℕ → Record V) → ℕ → ℕ → Type 0

@@ -14,8 +14,8 @@ use lib.Pow.{pow-mono, pow-lt}
 use borrow.Author.Tests.{eq-eqb, ne-eqb, lt-ltb, both-ways}
 use Rattle.std.proofs.shelf.Bits.{pow-pos, pow-add, shl-shr, shr-shr, div-below, mod-below, mod-pow-add}
 use Rattle.std.proofs.str.Laws.{order}
-use Rattle.network.specs.Turns.{Count}
-use Rattle.network.specs.Turns.Count.{nobody, one-such, not-such}
+use Rattle.sets.specs.Counts.{Count}
+use Rattle.sets.specs.Counts.Count.{nobody, one-such, not-such}
 use Rattle.sets.specs.Sets.{has, LeastFrom}
 
 -- a quotient by more than the number

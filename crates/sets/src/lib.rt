@@ -3,7 +3,7 @@ ghost use mathlib.Core.Path.{_≡_};
 ghost use mathlib.Core.Bool.{true, false, _&&_, _||_};
 ghost use Prim.Native.Nat.{ℕ, _<_, _≤_};
 ghost use lib.Dec.{eqb, ltb};
-ghost use Rattle.network.specs.Turns.{Count};
+ghost use Rattle.sets.specs.Counts.{Count};
 ghost use Rattle.std.specs.Options.{Cases};
 ghost use Rattle.sets.specs.Sets.{has, LeastFrom};
 
