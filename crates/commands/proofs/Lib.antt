@@ -1,5 +1,6 @@
 mod Taking
 mod Members
+mod One
 mod Two
 mod Places
 mod Whole

@@ -9,7 +9,7 @@ use lib.ListN.{length}
 use Rattle.std.specs.declared.option.Option.the-variants.{Some, None}
 use Rattle.words.specs.Numerals.{Numeral}
 use Rattle.words.specs.Words.{Spaced}
-use Rattle.commands.specs.declared.Kind.{Kind}
+use Rattle.commands.specs.declared.command.Kind.{Kind}
 use Rattle.commands.specs.Fields.{numeral, kindWord, kindName}
 use Rattle.commands.specs.Steps.{Left, TakesNumber}
 

@@ -4,49 +4,55 @@ use mathlib.Core.Bool.{Bool, true, false, cond}
 use mathlib.Core.List.{List, [], _∷_}
 use mathlib.Core.Logic.{_⊎_, ⊎-elim}
 use Prim.Native.Nat.{ℕ, zero, suc, _+_, _*_, _/_, _%_, _^_, _<_}
-use native.Mathlib.Nat.{div-one, mod-lt}
 use native.Mathlib.Numerals.{add-one, one-add}
 use native.Mathlib.Omega.{arith}
-use lib.Dec.{eqb, lit<}
+use lib.Dec.{eqb}
 use lib.ListN.{length, getD, replicate}
 use Rattle.std.specs.declared.result.Result.{Result}
 use Rattle.std.specs.declared.result.Result.the-variants.{Ok, Err}
-use Rattle.std.proofs.shelf.Bits.{shr-shr, shr-below}
-use Rattle.std.proofs.shelf.Tests.{cases-eq}
+use Rattle.std.proofs.shelf.Bits.{shr-below}
+use Rattle.std.proofs.shelf.Tests.{cases-eq, eqb-true, eqb-false, eq-eqb, ne-eqb}
+use Rattle.sets.specs.Sets.{has}
+use Rattle.sets.proofs.Members.{has-shr}
 use Rattle.words.specs.Numerals.{Numeral}
 use Rattle.words.proofs.Unique.{same-words, same-number}
-use Rattle.commands.specs.declared.Boards.{Boards}
-use Rattle.commands.specs.declared.Command.{Command}
-use Rattle.commands.specs.declared.Command.the-variants as command
-use Rattle.commands.specs.declared.Kind.{Kind}
-use Rattle.commands.specs.declared.Kind.the-variants.{Metres, Grade}
-use Rattle.commands.specs.declared.Misread.{Misread}
-use Rattle.commands.specs.declared.Misread.the-variants.{Malformed, Unknown, Count, Field}
-use Rattle.commands.specs.declared.Verb.{Verb}
-use Rattle.commands.specs.declared.Verb.the-variants as verb
+use Rattle.commands.specs.declared.boards.Boards.{Boards}
+use Rattle.commands.specs.declared.command.Command.{Command}
+use Rattle.commands.specs.declared.command.Command.the-variants as command
+use Rattle.commands.specs.declared.command.Kind.{Kind}
+use Rattle.commands.specs.declared.command.Kind.the-variants.{Metres, Grade}
+use Rattle.commands.specs.declared.misread.Misread.{Misread}
+use Rattle.commands.specs.declared.misread.Misread.the-variants.{Malformed, Unknown, Count, Field}
+use Rattle.commands.specs.declared.command.PickerName.{PickerName}
+use Rattle.commands.specs.declared.command.PickerName.the-variants.{All, Ring}
+use Rattle.commands.specs.declared.verb.Verb.{Verb}
+use Rattle.commands.specs.declared.verb.Verb.the-variants as verb
 use Rattle.commands.specs.Commands.{verbOf, Says, Written, Reading}
-use Rattle.commands.specs.Fields.{Sort, numeral, kindWord, Fits, Counts, sorts, nameOf, kindName, Misfit, Numerals}
+use Rattle.commands.specs.Fields.{Sort, numeral, kindWord, pickerWord, Fits, Counts, sorts, nameOf, kindName, pickerName, Misfit, Numerals}
 use Rattle.commands.specs.Sets.{SetOf}
 use Rattle.commands.proofs.Places.{numerals-length}
 
 -- Sets: those with the same members are the same
 
-half-bit : (a i : ℕ) → a / 2 / 2 ^ i % 2 ≡ a / 2 ^ suc i % 2
-half-bit a i = ap (λ x. x % 2) (shr-shr a 1 i) ∙ ap (λ k. a / 2 ^ k % 2) (one-add i)
+half-has : (a i : ℕ) → has (a / 2) i ≡ has a (suc i)
+half-has a i = has-shr a 1 i ∙ ap (has a) (one-add i)
 
 half-below : (a k : ℕ) → a < 2 ^ suc k → a / 2 < 2 ^ k
 half-below a k h = shr-below a k 1 (subst (λ j. a < 2 ^ j) (sym (add-one k)) h)
 
-same-bits : (k a b : ℕ) → a < 2 ^ k → b < 2 ^ k → ((i : ℕ) → i < k → a / 2 ^ i % 2 ≡ b / 2 ^ i % 2) → a ≡ b
-same-bits zero a b la lb h = omega arith
-same-bits (suc k) a b la lb h =
-    let low : a % 2 ≡ b % 2 = ap (λ x. x % 2) (sym (div-one a)) ∙ h 0 (omega arith) ∙ ap (λ x. x % 2) (div-one b) in
-    let high = same-bits k (a / 2) (b / 2) (half-below a k la) (half-below b k lb) (λ i lt. half-bit a i ∙ h (suc i) (omega arith) ∙ sym (half-bit b i)) in
-    omega arith
+same-digit : (x y : ℕ) → x < 2 → y < 2 → eqb x 1 ≡ eqb y 1 → x ≡ y
+same-digit x y lx ly e =
+    ⊎-elim
+    (λ one. one ∙ sym (eqb-true y 1 (sym e ∙ eq-eqb x 1 one)))
+    (λ other. let no = eqb-false y 1 (sym e ∙ ne-eqb x 1 other) in omega arith)
+    (cases-eq x 1)
 
-same-bit : (x y : ℕ) → x < 2 → y < 2 → (x ≡ 1 → y ≡ 1) → (y ≡ 1 → x ≡ 1) → x ≡ y
-same-bit x y lx ly to from =
-    ⊎-elim (λ e. e ∙ sym (to e)) (λ ne. ⊎-elim (λ f. absurd (ne (from f))) (λ nf. omega arith) (cases-eq y 1)) (cases-eq x 1)
+same-members : (k a b : ℕ) → a < 2 ^ k → b < 2 ^ k → ((i : ℕ) → i < k → has a i ≡ has b i) → a ≡ b
+same-members zero a b la lb h = omega arith
+same-members (suc k) a b la lb h =
+    let low = same-digit (a / 1 % 2) (b / 1 % 2) (omega arith) (omega arith) (h 0 (omega arith)) in
+    let high = same-members k (a / 2) (b / 2) (half-below a k la) (half-below b k lb) (λ i lt. half-has a i ∙ h (suc i) (omega arith) ∙ sym (half-has b i)) in
+    omega arith
 
 same-test : (x y : Bool) → (x ≡ true → y ≡ true) → (y ≡ true → x ≡ true) → x ≡ y
 same-test true y to from = sym (to refl)
@@ -55,11 +61,11 @@ same-test false false to from = refl
 
 same-set : (a b : Boards) (ns : List ℕ) → SetOf a ns → SetOf b ns → a ≡ b
 same-set a b ns p q =
-    let sets = same-bits 64 (a .set) (b .set) (p .small) (q .small) (λ i lt. same-bit (a .set / 2 ^ i % 2) (b .set / 2 ^ i % 2) (mod-lt (a .set / 2 ^ i) (lit< tt)) (mod-lt (b .set / 2 ^ i) (lit< tt)) (λ m. q .held i lt (p .named i lt m)) (λ m. p .held i lt (q .named i lt m))) in
+    let sets = same-members 64 (a .set) (b .set) (p .small) (q .small) (λ i lt. same-test (has (a .set) i) (has (b .set) i) (λ m. q .held i lt (p .named i lt m)) (λ m. p .held i lt (q .named i lt m))) in
     let tests = same-test (a .beyond) (b .beyond) (λ t. q .others .1 (p .others .0 t)) (λ t. p .others .1 (q .others .0 t)) in
     λ j. record { set = sets j; beyond = tests j }
 
--- Words: those of two verbs, or of two kinds, differ in their first two bytes
+-- Words: those of two verbs, of two kinds, or of two pickers, differ in their first two bytes
 
 abbrev key : List ℕ → ℕ
 key name = getD name 0 0 * 256 + getD name 1 0
@@ -71,7 +77,8 @@ verbBy k =
     (cond (eqb k (key (nameOf verb.Cut))) verb.Cut
     (cond (eqb k (key (nameOf verb.Plant))) verb.Plant
     (cond (eqb k (key (nameOf verb.Turn))) verb.Turn
-    (cond (eqb k (key (nameOf verb.Tally))) verb.Tally verb.Show)))))
+    (cond (eqb k (key (nameOf verb.Settle))) verb.Settle
+    (cond (eqb k (key (nameOf verb.Tally))) verb.Tally verb.Show))))))
 
 by-name : (v : Verb) → verbBy (key (nameOf v)) ≡ v
 by-name verb.New = refl
@@ -79,6 +86,7 @@ by-name verb.Wire = refl
 by-name verb.Cut = refl
 by-name verb.Plant = refl
 by-name verb.Turn = refl
+by-name verb.Settle = refl
 by-name verb.Tally = refl
 by-name verb.Show = refl
 
@@ -95,6 +103,16 @@ by-kind Grade = refl
 same-kind : (k l : Kind) → kindName k ≡ kindName l → k ≡ l
 same-kind k l e = sym (by-kind k) ∙ ap (λ name. kindBy (key name)) e ∙ by-kind l
 
+abbrev pickerBy : ℕ → PickerName
+pickerBy k = cond (eqb k (key (pickerName All))) All Ring
+
+by-picker : (p : PickerName) → pickerBy (key (pickerName p)) ≡ p
+by-picker All = refl
+by-picker Ring = refl
+
+same-picker : (p q : PickerName) → pickerName p ≡ pickerName q → p ≡ q
+same-picker p q e = sym (by-picker p) ∙ ap (λ name. pickerBy (key name)) e ∙ by-picker q
+
 -- Fields: they say one command of a verb
 
 same-numbers : (ms ns : List ℕ) (fs : List (List ℕ)) → Numerals ms fs → Numerals ns fs → ms ≡ ns
@@ -109,9 +127,10 @@ same-numbers (m ∷ ms) (n ∷ ns) (f ∷ fs) p q =
     let more = same-numbers ms ns fs (p .1) (q .1) in
     λ j. first j ∷ more j
 
--- the values of a command: its kind of length, its numbers and its boards, where it has such
+-- the values of a command: its kind of length, its picker, its numbers and its boards, where it has such
 record Values : Type 0 where
   kind : Kind
+  picker : PickerName
   numbers : List ℕ
   boards : Boards
 
@@ -119,14 +138,15 @@ abbrev none : Boards
 none = record { set = 0; beyond = false }
 
 abbrev plain : List ℕ → Values
-plain ns = record { kind = Metres; numbers = ns; boards = none }
+plain ns = record { kind = Metres; picker = All; numbers = ns; boards = none }
 
 abbrev valuesOf : Command → Values
-valuesOf (command.New n k) = record { kind = k; numbers = n ∷ []; boards = none }
+valuesOf (command.New n k) = record { kind = k; picker = All; numbers = n ∷ []; boards = none }
 valuesOf (command.Wire a p b q w) = plain (a ∷ p ∷ b ∷ q ∷ w ∷ [])
 valuesOf (command.Cut a p) = plain (a ∷ p ∷ [])
 valuesOf (command.Plant b s p code) = plain (b ∷ s ∷ p ∷ code ∷ [])
-valuesOf (command.Turn boards) = record { kind = Metres; numbers = []; boards = boards }
+valuesOf (command.Turn boards) = record { kind = Metres; picker = All; numbers = []; boards = boards }
+valuesOf (command.Settle p) = record { kind = Metres; picker = p; numbers = []; boards = none }
 valuesOf (command.Tally b) = plain (b ∷ [])
 valuesOf command.Show = plain []
 
@@ -136,6 +156,7 @@ rebuild verb.Wire v = command.Wire (getD (v .numbers) 0 0) (getD (v .numbers) 1 
 rebuild verb.Cut v = command.Cut (getD (v .numbers) 0 0) (getD (v .numbers) 1 0)
 rebuild verb.Plant v = command.Plant (getD (v .numbers) 0 0) (getD (v .numbers) 1 0) (getD (v .numbers) 2 0) (getD (v .numbers) 3 0)
 rebuild verb.Turn v = command.Turn (v .boards)
+rebuild verb.Settle v = command.Settle (v .picker)
 rebuild verb.Tally v = command.Tally (getD (v .numbers) 0 0)
 rebuild verb.Show v = command.Show
 
@@ -145,6 +166,7 @@ rebuilt (command.Wire a p b q w) = refl
 rebuilt (command.Cut a p) = refl
 rebuilt (command.Plant b s p code) = refl
 rebuilt (command.Turn boards) = refl
+rebuilt (command.Settle p) = refl
 rebuilt (command.Tally b) = refl
 rebuilt command.Show = refl
 
@@ -153,13 +175,17 @@ record Opens (v : Values) (fs : List (List ℕ)) : Type 0 where
   f : List ℕ
   fields : fs ≡ f ∷ kindName (v .kind) ∷ []
   number : Numeral f n
-  values : v ≡ record { kind = v .kind; numbers = n ∷ []; boards = none }
+  values : v ≡ record { kind = v .kind; picker = All; numbers = n ∷ []; boards = none }
 
 record Turns (v : Values) (fs : List (List ℕ)) : Type 0 where
   ns : List ℕ
   numbers : Numerals ns fs
   boards : SetOf (v .boards) ns
-  values : v ≡ record { kind = Metres; numbers = []; boards = v .boards }
+  values : v ≡ record { kind = Metres; picker = All; numbers = []; boards = v .boards }
+
+record Settles (v : Values) (fs : List (List ℕ)) : Type 0 where
+  fields : fs ≡ pickerName (v .picker) ∷ []
+  values : v ≡ record { kind = Metres; picker = v .picker; numbers = []; boards = none }
 
 record Lists (v : Values) (fs : List (List ℕ)) : Type 0 where
   numbers : Numerals (v .numbers) fs
@@ -171,6 +197,7 @@ Holds verb.Wire v fs = Lists v fs
 Holds verb.Cut v fs = Lists v fs
 Holds verb.Plant v fs = Lists v fs
 Holds verb.Turn v fs = Turns v fs
+Holds verb.Settle v fs = Settles v fs
 Holds verb.Tally v fs = Lists v fs
 Holds verb.Show v fs = Lists v fs
 
@@ -180,6 +207,7 @@ says-holds (command.Wire a p b q w) fs h = record { numbers = h; values = refl }
 says-holds (command.Cut a p) fs h = record { numbers = h; values = refl }
 says-holds (command.Plant b s p code) fs h = record { numbers = h; values = refl }
 says-holds (command.Turn boards) fs h = record { ns = h .0; numbers = h .1; boards = h .2; values = refl }
+says-holds (command.Settle p) fs h = record { fields = h; values = refl }
 says-holds (command.Tally b) fs h = record { numbers = h; values = refl }
 says-holds command.Show fs h = record { numbers = h; values = refl }
 
@@ -190,13 +218,19 @@ same-opens v w fs p q =
     let names : kindName (v .kind) ≡ kindName (w .kind) = cc in
     let kinds = same-kind (v .kind) (w .kind) names in
     let counts = same-number (q .f) (p .n) (q .n) (subst (λ f. Numeral f (p .n)) words (p .number)) (q .number) in
-    p .values ∙ (λ j. record { kind = kinds j; numbers = counts j ∷ []; boards = none }) ∙ sym (q .values)
+    p .values ∙ (λ j. record { kind = kinds j; picker = All; numbers = counts j ∷ []; boards = none }) ∙ sym (q .values)
 
 same-turns : (v w : Values) (fs : List (List ℕ)) → Turns v fs → Turns w fs → v ≡ w
 same-turns v w fs p q =
     let numbers = same-numbers (p .ns) (q .ns) fs (p .numbers) (q .numbers) in
     let sets = same-set (v .boards) (w .boards) (q .ns) (subst (SetOf (v .boards)) numbers (p .boards)) (q .boards) in
-    p .values ∙ (λ j. record { kind = Metres; numbers = []; boards = sets j }) ∙ sym (q .values)
+    p .values ∙ (λ j. record { kind = Metres; picker = All; numbers = []; boards = sets j }) ∙ sym (q .values)
+
+same-settles : (v w : Values) (fs : List (List ℕ)) → Settles v fs → Settles w fs → v ≡ w
+same-settles v w fs p q =
+    let both : pickerName (v .picker) ∷ [] ≡ pickerName (w .picker) ∷ [] = sym (p .fields) ∙ q .fields in
+    let pickers = same-picker (v .picker) (w .picker) (cc) in
+    p .values ∙ (λ j. record { kind = Metres; picker = pickers j; numbers = []; boards = none }) ∙ sym (q .values)
 
 same-lists : (v w : Values) (fs : List (List ℕ)) → Lists v fs → Lists w fs → v ≡ w
 same-lists v w fs p q = p .values ∙ ap plain (same-numbers (v .numbers) (w .numbers) fs (p .numbers) (q .numbers)) ∙ sym (q .values)
@@ -207,6 +241,7 @@ same-values verb.Wire v w fs p q = same-lists v w fs p q
 same-values verb.Cut v w fs p q = same-lists v w fs p q
 same-values verb.Plant v w fs p q = same-lists v w fs p q
 same-values verb.Turn v w fs p q = same-turns v w fs p q
+same-values verb.Settle v w fs p q = same-settles v w fs p q
 same-values verb.Tally v w fs p q = same-lists v w fs p q
 same-values verb.Show v w fs p q = same-lists v w fs p q
 
@@ -248,6 +283,7 @@ says-fits (command.Wire a p b q w) fs h = numbers-fit (a ∷ p ∷ b ∷ q ∷ w
 says-fits (command.Cut a p) fs h = numbers-fit (a ∷ p ∷ []) fs h
 says-fits (command.Plant b s p code) fs h = numbers-fit (b ∷ s ∷ p ∷ code ∷ []) fs h
 says-fits (command.Turn boards) fs h = numbers-fit (h .0) fs (h .1)
+says-fits (command.Settle p) fs h = subst (Fitting (pickerWord ∷ [])) (sym h) ((p, refl), tt)
 says-fits (command.Tally b) fs h = numbers-fit (b ∷ []) fs h
 says-fits command.Show fs h = numbers-fit [] fs h
 
@@ -257,6 +293,7 @@ says-counts (command.Wire a p b q w) fs h = sym (numerals-length (a ∷ p ∷ b 
 says-counts (command.Cut a p) fs h = sym (numerals-length (a ∷ p ∷ []) fs h)
 says-counts (command.Plant b s p code) fs h = sym (numerals-length (b ∷ s ∷ p ∷ code ∷ []) fs h)
 says-counts (command.Turn boards) fs h = tt
+says-counts (command.Settle p) fs h = ap length h
 says-counts (command.Tally b) fs h = sym (numerals-length (b ∷ []) fs h)
 says-counts command.Show fs h = sym (numerals-length [] fs h)
 

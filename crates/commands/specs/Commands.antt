@@ -8,13 +8,13 @@ use Rattle.std.specs.declared.result.Result.{Result}
 use Rattle.std.specs.declared.result.Result.the-variants.{Ok, Err}
 use Rattle.words.specs.Numerals.{Numeral}
 use Rattle.words.specs.Words.{Words}
-use Rattle.commands.specs.declared.Command.{Command}
-use Rattle.commands.specs.declared.Command.the-variants as command
-use Rattle.commands.specs.declared.Misread.{Misread}
-use Rattle.commands.specs.declared.Misread.the-variants.{Malformed, Unknown, Count, Field}
-use Rattle.commands.specs.declared.Verb.{Verb}
-use Rattle.commands.specs.declared.Verb.the-variants as verb
-use Rattle.commands.specs.Fields.{Counts, sorts, nameOf, kindName, Misfit, Numerals}
+use Rattle.commands.specs.declared.command.Command.{Command}
+use Rattle.commands.specs.declared.command.Command.the-variants as command
+use Rattle.commands.specs.declared.misread.Misread.{Misread}
+use Rattle.commands.specs.declared.misread.Misread.the-variants.{Malformed, Unknown, Count, Field}
+use Rattle.commands.specs.declared.verb.Verb.{Verb}
+use Rattle.commands.specs.declared.verb.Verb.the-variants as verb
+use Rattle.commands.specs.Fields.{Counts, sorts, nameOf, kindName, pickerName, Misfit, Numerals}
 use Rattle.commands.specs.Sets.{SetOf}
 
 -- the verb of a command
@@ -24,6 +24,7 @@ verbOf (command.Wire a p b q w) = verb.Wire
 verbOf (command.Cut a p) = verb.Cut
 verbOf (command.Plant b s p code) = verb.Plant
 verbOf (command.Turn boards) = verb.Turn
+verbOf (command.Settle p) = verb.Settle
 verbOf (command.Tally b) = verb.Tally
 verbOf command.Show = verb.Show
 
@@ -34,6 +35,7 @@ Says (command.Wire a p b q w) fields = Numerals (a ∷ p ∷ b ∷ q ∷ w ∷ [
 Says (command.Cut a p) fields = Numerals (a ∷ p ∷ []) fields
 Says (command.Plant b s p code) fields = Numerals (b ∷ s ∷ p ∷ code ∷ []) fields
 Says (command.Turn boards) fields = (ns : List ℕ) × Numerals ns fields × SetOf boards ns
+Says (command.Settle p) fields = fields ≡ pickerName p ∷ []
 Says (command.Tally b) fields = Numerals (b ∷ []) fields
 Says command.Show fields = Numerals [] fields
 

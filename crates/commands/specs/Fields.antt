@@ -6,10 +6,12 @@ use Prim.Native.Nat.{ℕ, _+_}
 use lib.Chars.{codes}
 use lib.ListN.{length, replicate}
 use Rattle.words.specs.Numerals.{Numeral}
-use Rattle.commands.specs.declared.Kind.{Kind}
-use Rattle.commands.specs.declared.Kind.the-variants.{Metres, Grade}
-use Rattle.commands.specs.declared.Verb.{Verb}
-use Rattle.commands.specs.declared.Verb.the-variants.{New, Wire, Cut, Plant, Turn, Tally, Show}
+use Rattle.commands.specs.declared.command.Kind.{Kind}
+use Rattle.commands.specs.declared.command.Kind.the-variants.{Metres, Grade}
+use Rattle.commands.specs.declared.command.PickerName.{PickerName}
+use Rattle.commands.specs.declared.command.PickerName.the-variants.{All, Ring}
+use Rattle.commands.specs.declared.verb.Verb.{Verb}
+use Rattle.commands.specs.declared.verb.Verb.the-variants.{New, Wire, Cut, Plant, Turn, Settle, Tally, Show}
 
 -- the word of a verb
 abbrev pub nameOf : Verb → List ℕ
@@ -18,6 +20,7 @@ nameOf Wire = codes "wire"
 nameOf Cut = codes "cut"
 nameOf Plant = codes "plant"
 nameOf Turn = codes "turn"
+nameOf Settle = codes "settle"
 nameOf Tally = codes "tally"
 nameOf Show = codes "show"
 
@@ -26,14 +29,21 @@ abbrev pub kindName : Kind → List ℕ
 kindName Metres = codes "metres"
 kindName Grade = codes "grade"
 
--- what a field may be: a number, or a kind of length
+-- the word of a picker
+abbrev pub pickerName : PickerName → List ℕ
+pickerName All = codes "all"
+pickerName Ring = codes "ring"
+
+-- what a field may be: a number, a kind of length, or a picker
 pub data Sort : Type 0 where
   numeral : Sort
   kindWord : Sort
+  pickerWord : Sort
 
 abbrev pub Fits : Sort → List ℕ → Type 0
 Fits numeral field = (n : ℕ) × Numeral field n
 Fits kindWord field = (k : Kind) × (field ≡ kindName k)
+Fits pickerWord field = (p : PickerName) × (field ≡ pickerName p)
 
 -- how many fields a verb takes; a turn takes any number
 abbrev pub Counts : Verb → ℕ → Type 0
@@ -42,6 +52,7 @@ Counts Wire n = n ≡ 5
 Counts Cut n = n ≡ 2
 Counts Plant n = n ≡ 4
 Counts Turn n = Unit {0}
+Counts Settle n = n ≡ 1
 Counts Tally n = n ≡ 1
 Counts Show n = n ≡ 0
 
@@ -52,6 +63,7 @@ sorts Wire n = replicate n numeral
 sorts Cut n = replicate n numeral
 sorts Plant n = replicate n numeral
 sorts Turn n = replicate n numeral
+sorts Settle n = pickerWord ∷ []
 sorts Tally n = replicate n numeral
 sorts Show n = replicate n numeral
 

@@ -1,7 +1,7 @@
 -- Why a line is refused, as the bench writes it.
 use Prim.Native.Nat.{ℕ}
-use Rattle.commands.specs.declared.Misread.{Misread}
-use Rattle.commands.specs.declared.Misread.the-variants.{Malformed, Unknown, Count, Field}
+use Rattle.commands.specs.declared.misread.Misread.{Misread}
+use Rattle.commands.specs.declared.misread.Misread.the-variants.{Malformed, Unknown, Count, Field}
 
 -- the number of a refusal
 abbrev pub numberOf : Misread → ℕ

@@ -11,10 +11,10 @@ use Rattle.std.specs.declared.result.Result.{Result}
 use Rattle.std.specs.declared.result.Result.the-variants.{Ok, Err}
 use Rattle.words.specs.Numerals.{Numeral}
 use Rattle.words.specs.Words.{spaced, Spaced}
-use Rattle.commands.specs.declared.Boards.{Boards}
-use Rattle.commands.specs.declared.Command.{Command}
-use Rattle.commands.specs.declared.Kind.{Kind}
-use Rattle.commands.specs.declared.Verb.{Verb}
+use Rattle.commands.specs.declared.boards.Boards.{Boards}
+use Rattle.commands.specs.declared.command.Command.{Command}
+use Rattle.commands.specs.declared.command.Kind.{Kind}
+use Rattle.commands.specs.declared.verb.Verb.{Verb}
 use Rattle.commands.specs.Commands.{verbOf, Says}
 use Rattle.commands.specs.Fields.{Sort, numeral, kindWord, Fits, Counts, sorts, Numerals, kindName}
 use Rattle.commands.specs.Sets.{SetOf}

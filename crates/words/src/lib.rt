@@ -14,7 +14,7 @@ ghost use Rattle.words.specs.Numerals.{Numeral};
 const DIGITS: usize = 10;
 
 // How many bytes stand before the first `stop`: all, where there is none.
-pub fn before(bytes: &[u8], stop: u8) -> usize
+fn before(bytes: &[u8], stop: u8) -> usize
     ensures within { λ r. ⌜ r ≤ length (now (bytes .entry)) ⌝ }
     ensures lacks { λ r. ⌜ Lacks stop (take r (now (bytes .entry))) ⌝ }
     ensures stops { λ r. ⌜ (r < length (now (bytes .entry)) → getD (now (bytes .entry)) r 0 ≡ stop) ⌝ }
@@ -28,7 +28,7 @@ pub fn before(bytes: &[u8], stop: u8) -> usize
 }
 
 // The bytes before the first `stop`, and those after it, if it is there.
-pub fn cut<'a>(bytes: &'a [u8], stop: u8) -> (&'a [u8], Option<&'a [u8]>)
+fn cut<'a>(bytes: &'a [u8], stop: u8) -> (&'a [u8], Option<&'a [u8]>)
     ensures { λ r. ⌜ Cut stop (now (bytes .entry)) (now (r .0)) (r .1) ⌝ }
 {
     let at = before(bytes, stop);
@@ -62,7 +62,7 @@ pub fn next_line<'a>(script: &'a [u8]) -> Option<(&'a [u8], &'a [u8])>
 }
 
 // Whether the bytes are one word.
-pub fn is_word(bytes: &[u8]) -> bool
+fn is_word(bytes: &[u8]) -> bool
     ensures { λ r. ⌜ Decides r (Word (now (bytes .entry))) ⌝ }
 {
     for b in bytes {

@@ -5,7 +5,7 @@ use lib.ListN.{length}
 use Rattle.std.proofs.shelf.Tests.{eqb-true, eqb-false}
 use Rattle.commands.proofs.Taking.{none-taken, one-taken, missed, all-taken, some-left, none-left}
 use Rattle.commands.proofs.Members.{set-none}
-use Rattle.commands.proofs.named_boards.Needs as need
+use Rattle.commands.proofs.fields.named_boards.Needs as need
 
 pub returns-in-rest : need.returns-in-rest
 returns-in-rest c = λ fs h.

@@ -6,7 +6,7 @@ use lib.ListN.{length, take, length-set, length-replicate}
 use Rattle.std.proofs.shelf.Lists.{take-more-set, take-all, length-take-le}
 use Rattle.commands.specs.Fields.{Numerals}
 use Rattle.commands.proofs.Taking.{Taken, Reads, none-taken, one-taken, missed, all-taken}
-use Rattle.commands.proofs.numbers.Needs as need
+use Rattle.commands.proofs.fields.numbers.Needs as need
 
 -- before the last turn fields are left
 some-left : (n i : ℕ) (found rest : List ℕ) (fs gs : List (List ℕ)) → i < n → length found ≡ n → length fs ≡ n → Taken fs gs rest (take i found) → 0 < length gs

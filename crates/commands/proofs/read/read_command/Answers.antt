@@ -6,8 +6,8 @@ use Rattle.std.proofs.shelf.Tests.{both-ways}
 use Rattle.commands.specs.Commands.{Written}
 use Rattle.commands.specs.Fields.{Counts, nameOf, sorts}
 use Rattle.commands.proofs.Whole.{Parts, parts, at-byte}
-use Rattle.commands.proofs.read_command.Needs as need
-use Rattle.commands.proofs.read_command.Needs.{In-Some-verb-of}
+use Rattle.commands.proofs.read.read_command.Needs as need
+use Rattle.commands.proofs.read.read_command.Needs.{In-Some-verb-of}
 
 pub returns-in-rest-verb-of : need.returns-in-rest-verb-of
 returns-in-rest-verb-of c =

@@ -1,7 +1,7 @@
 use mathlib.Core.Path.{sym, subst}
 use Rattle.words.specs.Numerals.{Numeral}
 use Rattle.words.proofs.Unique.{next-word, first-shorter}
-use Rattle.commands.proofs.number_field.Needs as need
+use Rattle.commands.proofs.fields.number_field.Needs as need
 
 pub returns-in-Break-n : need.returns-in-Break-n
 returns-in-Break-n c =

@@ -1,5 +1,5 @@
 use Rattle.commands.proofs.Two.{no-number, no-kind, both}
-use Rattle.commands.proofs.opening.Needs as need
+use Rattle.commands.proofs.fields.opening.Needs as need
 
 pub returns-in-rest : need.returns-in-rest
 returns-in-rest c = λ fs h two. no-number fs (c .args .fields .now) h two (c .in-rest .ensures tt .takes)
