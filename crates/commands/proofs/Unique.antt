@@ -13,7 +13,7 @@ use Rattle.std.specs.declared.result.Result.the-variants.{Ok, Err}
 use Rattle.std.proofs.shelf.Bits.{shr-below}
 use Rattle.std.proofs.shelf.Tests.{cases-eq, eqb-true, eqb-false, eq-eqb, ne-eqb}
 use Rattle.sets.specs.Sets.{has}
-use Rattle.sets.proofs.Members.{has-shr}
+use Rattle.sets.proofs.Members.{same-members, same-test}
 use Rattle.words.specs.Numerals.{Numeral}
 use Rattle.words.proofs.Unique.{same-words, same-number}
 use Rattle.commands.specs.declared.boards.Boards.{Boards}
@@ -33,31 +33,6 @@ use Rattle.commands.specs.Sets.{SetOf}
 use Rattle.commands.proofs.Places.{numerals-length}
 
 -- Sets: those with the same members are the same
-
-half-has : (a i : ℕ) → has (a / 2) i ≡ has a (suc i)
-half-has a i = has-shr a 1 i ∙ ap (has a) (one-add i)
-
-half-below : (a k : ℕ) → a < 2 ^ suc k → a / 2 < 2 ^ k
-half-below a k h = shr-below a k 1 (subst (λ j. a < 2 ^ j) (sym (add-one k)) h)
-
-same-digit : (x y : ℕ) → x < 2 → y < 2 → eqb x 1 ≡ eqb y 1 → x ≡ y
-same-digit x y lx ly e =
-    ⊎-elim
-    (λ one. one ∙ sym (eqb-true y 1 (sym e ∙ eq-eqb x 1 one)))
-    (λ other. let no = eqb-false y 1 (sym e ∙ ne-eqb x 1 other) in omega arith)
-    (cases-eq x 1)
-
-same-members : (k a b : ℕ) → a < 2 ^ k → b < 2 ^ k → ((i : ℕ) → i < k → has a i ≡ has b i) → a ≡ b
-same-members zero a b la lb h = omega arith
-same-members (suc k) a b la lb h =
-    let low = same-digit (a / 1 % 2) (b / 1 % 2) (omega arith) (omega arith) (h 0 (omega arith)) in
-    let high = same-members k (a / 2) (b / 2) (half-below a k la) (half-below b k lb) (λ i lt. half-has a i ∙ h (suc i) (omega arith) ∙ sym (half-has b i)) in
-    omega arith
-
-same-test : (x y : Bool) → (x ≡ true → y ≡ true) → (y ≡ true → x ≡ true) → x ≡ y
-same-test true y to from = sym (to refl)
-same-test false true to from = from refl
-same-test false false to from = refl
 
 same-set : (a b : Boards) (ns : List ℕ) → SetOf a ns → SetOf b ns → a ≡ b
 same-set a b ns p q =

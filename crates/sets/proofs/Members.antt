@@ -6,13 +6,14 @@ use Prim.Native.Nat.{ℕ, zero, suc, _+_, _-_, _*_, _/_, _%_, _^_, _<_, _≤_, m
 use native.Mathlib.Decide.{ℕ-discrete, decLt}
 use native.Mathlib.Omega.{arith}
 use native.Mathlib.Nat.{pow-succ', pow-zero, one-mul, zero-add, mod-one, div-one}
-use native.Mathlib.Numerals.{one-add}
+use native.Mathlib.Numerals.{add-one, one-add}
 use lib.Bits.{bitOr, or-shr, or-step}
 use lib.Count.{ones, ones-cat, trailingZeros, under as above}
 use lib.Dec.{eqb, ltb}
 use lib.Pow.{pow-mono, pow-lt}
-use borrow.Author.Tests.{eq-eqb, ne-eqb, lt-ltb, both-ways}
-use Rattle.std.proofs.shelf.Bits.{pow-pos, pow-add, shl-shr, shr-shr, div-below, mod-below, mod-pow-add}
+use borrow.Author.Tests.{eq-eqb, ne-eqb, eqb-true, eqb-false, lt-ltb, both-ways}
+use Rattle.std.proofs.shelf.Tests.{cases-eq}
+use Rattle.std.proofs.shelf.Bits.{shr-below, pow-pos, pow-add, shl-shr, shr-shr, div-below, mod-below, mod-pow-add}
 use Rattle.std.proofs.str.Laws.{order}
 use Rattle.sets.specs.Counts.{Count}
 use Rattle.sets.specs.Counts.Count.{nobody, one-such, not-such}
@@ -147,3 +148,26 @@ in-sixty-four s b small in-s = by-cases (decLt b 64) (λ lt. lt) (λ ge. absurd 
 -- a set that is not empty has a board
 pub some-board : (s : ℕ) → s < 2 ^ 64 → (s ≡ 0 → ⊥) → (b : ℕ) × (has s b ≡ true)
 some-board s small ne = (trailingZeros 64 s, trailing 64 s small ne .there)
+
+-- sets with the same members are the same
+half-below : (a k : ℕ) → a < 2 ^ suc k → a / 2 < 2 ^ k
+half-below a k h = shr-below a k 1 (subst (λ j. a < 2 ^ j) (sym (add-one k)) h)
+
+same-digit : (x y : ℕ) → x < 2 → y < 2 → eqb x 1 ≡ eqb y 1 → x ≡ y
+same-digit x y lx ly e =
+    ⊎-elim
+    (λ one. one ∙ sym (eqb-true y 1 (sym e ∙ eq-eqb x 1 one)))
+    (λ other. let no = eqb-false y 1 (sym e ∙ ne-eqb x 1 other) in omega arith)
+    (cases-eq x 1)
+
+pub same-members : (k a b : ℕ) → a < 2 ^ k → b < 2 ^ k → ((i : ℕ) → i < k → has a i ≡ has b i) → a ≡ b
+same-members zero a b la lb h = omega arith
+same-members (suc k) a b la lb h =
+    let low = same-digit (a / 1 % 2) (b / 1 % 2) (omega arith) (omega arith) (h 0 (omega arith)) in
+    let high = same-members k (a / 2) (b / 2) (half-below a k la) (half-below b k lb) (λ i lt. halved a i ∙ h (suc i) (omega arith) ∙ sym (halved b i)) in
+    omega arith
+
+pub same-test : (x y : Bool) → (x ≡ true → y ≡ true) → (y ≡ true → x ≡ true) → x ≡ y
+same-test true y to from = sym (to refl)
+same-test false true to from = from refl
+same-test false false to from = refl

@@ -1,0 +1,5 @@
+mod Appending
+mod Answering
+mod OneMove
+mod OneHall
+mod OneTranscript
