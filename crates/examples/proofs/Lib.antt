@@ -1,0 +1,4 @@
+pub mod Ports
+pub mod Cabled
+pub mod Hall
+pub mod Examples

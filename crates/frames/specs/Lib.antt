@@ -1,0 +1,5 @@
+pub mod Faults
+pub mod Items
+pub mod Reading
+pub mod Record
+pub mod Stream
