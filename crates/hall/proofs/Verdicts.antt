@@ -28,7 +28,7 @@ is-verdict k h b lt ne (Some v) j = (lt, ne, j)
 pub verdict-of : {V : Type 0} (k : Kind V) (h : Hall V) (b : ℕ) → b < boardsIn h → (b ≡ 0 → ⊥) → (own : Record V) → own ≡ recordsIn k h b → (r : Option Verdict) → Judged k own (around (farIn h) (recordsIn k h) b) r → IsVerdict k h b r
 verdict-of k h b lt ne own e r j = is-verdict k h b lt ne r (subst (λ x. Judged k x (around (farIn h) (recordsIn k h) b) r) e j)
 
-or-true : (x : Bool) → (x || true) ≡ true
+pub or-true : (x : Bool) → (x || true) ≡ true
 or-true true = refl
 or-true false = refl
 
@@ -49,23 +49,35 @@ none-yet k h = record {
   only = λ b e. absurd (both-ways (has 0 b) (has-zero b) e);
 }
 
-pub passed-over : {V : Type 0} (k : Kind V) (h : Hall V) (m s : ℕ) → EnabledBelow k h m s → (r : Option Verdict) → IsVerdict k h m r → isSome r ≡ false → EnabledBelow k h (m + 1) s
-passed-over k h m s i None j e = record {
+-- whether board b is enabled
+abbrev pub Tells : {V : Type 0} → Kind V → Hall V → ℕ → Bool → Type 0
+Tells k h b true = (v : Verdict) × VerdictIn k h b v
+Tells k h b false = (v : Verdict) → VerdictIn k h b v → ⊥
+
+pub tells-verdict : {V : Type 0} (k : Kind V) (h : Hall V) (b : ℕ) (r : Option Verdict) (t : Bool) → t ≡ isSome r → IsVerdict k h b r → Tells k h b t
+tells-verdict k h b None true e j = absurd (both-ways true e refl)
+tells-verdict k h b None false e j = j
+tells-verdict k h b (Some v) true e j = (v, j)
+tells-verdict k h b (Some v) false e j = absurd (both-ways false refl e)
+
+-- one board more: it is not enabled, or it is and joins the set
+pub passed-over : {V : Type 0} (k : Kind V) (h : Hall V) (m s : ℕ) (t : Bool) → EnabledBelow k h m s → Tells k h m t → t ≡ false → EnabledBelow k h (m + 1) s
+passed-over k h m s true i j e = absurd (both-ways true e refl)
+passed-over k h m s false i j e = record {
   small = i .small;
   all = λ b v lt x. by-cases (ℕ-discrete b m) (λ same. absurd (j v (subst (λ y. VerdictIn k h y v) same x))) (λ ne. i .all b v (omega arith) x);
   only = i .only;
 }
-passed-over k h m s i (Some v) j e = absurd (both-ways true e refl)
 
-pub one-more : {V : Type 0} (k : Kind V) (h : Hall V) (m s t : ℕ) → EnabledBelow k h m s → t < 2 ^ 64 → m < 64 → ((b : ℕ) → has t b ≡ (has s b || (eqb b m && ltb m 64))) → (r : Option Verdict) → IsVerdict k h m r → isSome r ≡ true → EnabledBelow k h (m + 1) t
-one-more k h m s t i small lt w None j e = absurd (both-ways false refl e)
-one-more k h m s t i small lt w (Some v) j e = record {
+pub one-more : {V : Type 0} (k : Kind V) (h : Hall V) (m s r : ℕ) (t : Bool) → EnabledBelow k h m s → Tells k h m t → t ≡ true → r < 2 ^ 64 → m < 64 → ((b : ℕ) → has r b ≡ (has s b || (eqb b m && ltb m 64))) → EnabledBelow k h (m + 1) r
+one-more k h m s r false i j e small lt w = absurd (both-ways false refl e)
+one-more k h m s r true i j e small lt w = record {
   small = small;
   all = λ b u below x. by-cases (ℕ-discrete b m)
       (λ same. w b ∙ ap (λ y. has s b || y) (ap₂ _&&_ (eq-eqb b m same) (lt-ltb m 64 lt)) ∙ or-true (has s b))
       (λ ne. w b ∙ ap (λ y. y || (eqb b m && ltb m 64)) (i .all b u (omega arith) x));
   only = λ b y. by-cases (ℕ-discrete b m)
-      (λ same. (v, subst (λ z. VerdictIn k h z v) (sym same) j))
+      (λ same. (j .0, subst (λ z. VerdictIn k h z (j .0)) (sym same) (j .1)))
       (λ ne. i .only b (sym (or-false (has s b)) ∙ ap (λ z. has s b || z) (sym (ap (λ z. z && ltb m 64) (ne-eqb b m ne))) ∙ sym (w b) ∙ y));
 }
 

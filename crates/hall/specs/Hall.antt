@@ -199,6 +199,22 @@ pub record Noted {V : Type 0} (before : Hall V) (b : ℕ) (next : Record V) (rul
   pub counts : (v : Verdict) → countsIn after b v ≡ counted (countsIn before b v) (Some rule) v
   pub others : (o : ℕ) → (o ≡ b → ⊥) → getD (after .tallies) o nothing ≡ getD (before .tallies) o nothing
 
+-- r has the boards of s, and the far boards of the first m ports of board b
+pub record Reaches {V : Type 0} (h : Hall V) (s b m r : ℕ) : Type 0 where
+  pub small : r < 2 ^ 64
+  pub these : (c : ℕ) → has s c ≡ true → has r c ≡ true
+  pub far : (p : ℕ) (e : End) → p < m → farIn h b p ≡ Some e → has r (e .board) ≡ true
+
+-- r has the boards of s, and the neighbours of those below m
+pub record NearAll {V : Type 0} (h : Hall V) (s m r : ℕ) : Type 0 where
+  pub small : r < 2 ^ 64
+  pub these : (c : ℕ) → has s c ≡ true → has r c ≡ true
+  pub neighbours : (b p : ℕ) (e : End) → b < m → has s b ≡ true → farIn h b p ≡ Some e → has r (e .board) ≡ true
+
+-- r is the set of enabled boards, where s was it before the boards of `moved` moved
+abbrev pub EnabledAfter : {V : Type 0} → Kind V → Hall V → ℕ → ℕ → ℕ → Type 0
+EnabledAfter {V} k h s moved r = (before : Hall V) → EnabledSet k before s → Turned k before moved h → EnabledSet k h r
+
 -- every board of s is enabled
 abbrev pub AllEnabled : {V : Type 0} → Kind V → Hall V → ℕ → Type 0
 AllEnabled k h s = (b : ℕ) → has s b ≡ true → (v : Verdict) × VerdictIn k h b v

@@ -23,7 +23,7 @@ loop-enabled-again g c =
     let p = c .loop-enabled .picker in
     let s = c .loop-enabled .enabled in
     let turned = subst (λ x. Turned k (c .loop-enabled .self) x (c .advance .last .self)) (c .ask-chosen .ensures .answer) (c .advance .ensures) in (
-      c .enabled-enabled-in-loop-enabled .ensures,
+      c .enabled-after-enabled .ensures (c .loop-enabled .self) (inv .0) (c .advance .ensures),
       λ q end d. inv .1 q end (asked s (inv .0) (c .loop-enabled-test .taken) turned (subst (λ (x : g .P .Denot). Settles k picks x (c .advance .last .self) q end) (c .ask-chosen .ensures .next) d)),
     )
 
