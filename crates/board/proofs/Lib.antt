@@ -1,0 +1,4 @@
+pub mod Weights
+pub mod Slots
+pub mod Sights
+pub mod Telling
