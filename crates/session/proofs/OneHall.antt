@@ -34,6 +34,7 @@ use Rattle.hall.specs.declared.questions.Look.{Look}
 use Rattle.hall.specs.declared.tables.Hall.{Hall}
 use Rattle.hall.specs.declared.tables.Tally.{Tally}
 use Rattle.hall.proofs.CableLaw.{cabled}
+use Rattle.hall.proofs.Rewiring.{spot}
 use Rattle.session.specs.Texts.{boardText, ShownFrom, past, board}
 use Rattle.session.proofs.OneMove.{one-verdict, one-effect}
 
@@ -111,14 +112,6 @@ module _ {V : Type 0} {k : Kind V} (laws : Laws k) where
     records = λ b lt. records b (omega (arith, p .boards));
     counts = λ b v. p .counts b v ∙ sym (q .counts b v);
   }
-
-  spot : (c r a p : ℕ) → Dec ((c ≡ a) × (r ≡ p))
-  spot c r a p = go (ℕ-discrete c a) (ℕ-discrete r p)
-    where
-      go : Dec (c ≡ a) → Dec (r ≡ p) → Dec ((c ≡ a) × (r ≡ p))
-      go (yes x) (yes y) = yes (x, y)
-      go (yes x) (no n) = no (λ e. n (e .1))
-      go (no n) y = no (λ e. n (e .0))
 
   -- tables that agree at a spot, and elsewhere by the tables before
   at-spot : {X : Type 0} (f g : ℕ → ℕ → X) {c r a p : ℕ} → (c ≡ a) × (r ≡ p) → f a p ≡ g a p → f c r ≡ g c r
