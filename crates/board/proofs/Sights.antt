@@ -14,12 +14,11 @@ use Rattle.lengths.specs.Kind.{Kind, Laws}
 use Rattle.rules.specs.Rules.{Moves}
 use Rattle.rules.specs.Status.{numberOf}
 use Rattle.rules.specs.declared.neighbourhood.Seen.{Seen}
-use Rattle.rules.specs.declared.moves.Move.{Move}
 use Rattle.rules.specs.declared.record.Record.{Record}
 use Rattle.rules.specs.declared.record.Status.{Status}
 use Rattle.rules.specs.declared.record.Status.the-variants.{I, C, EB, EF}
 use Rattle.rules.specs.declared.record.Verdict.{Verdict}
-use Rattle.network.specs.Cables.{around, shown}
+use Rattle.network.specs.Cables.{around, shown, rootOf}
 use Rattle.network.specs.declared.End.{End}
 use Rattle.hall.specs.Hall.{MoveOn}
 use Rattle.hall.proofs.Verdicts.{move-of}
@@ -30,7 +29,7 @@ use Rattle.frames.proofs.Bytes.{at-drop}
 use Rattle.frames.proofs.Records.{code-written, fields-written}
 use Rattle.board.specs.Hear.{slotAt}
 use Rattle.board.specs.Move.{statusOf, legible, shownBy, sight, seenIn, ByRules, MovesAs, HearsEnd, UpToDate, AsInHall}
-use Rattle.board.specs.Station.{weightAt, lengthOr, ownOf}
+use Rattle.board.specs.Station.{weightAt, lengthOr, ownOf, Rewritten}
 use Rattle.board.specs.declared.ports.Ports.{Ports}
 use Rattle.board.specs.declared.states.Owing.{Owing}
 use Rattle.board.specs.declared.states.Ready.{Ready}
@@ -84,26 +83,22 @@ module _ {V : Type 0} {k : Kind V} (laws : Laws k) where
   pub seen-none : (s : Ports) (ear slot : List ℕ) (p w : ℕ) (fault : FrameFault) → weightAt s p ≡ Some w → slot ≡ slotAt ear p → Unreadable k slot fault → None ≡ seenIn k s ear p
   seen-none s ear slot p w fault e f u = sym (ap₂ (sight k) e (sym f) ∙ sight-none slot fault w u)
 
-  -- a record, written as numbers and read again
-  pub own-again : (r : Record V) (c : ℕ) → c ≡ k .coded (r .length) → _≡_ {A = Record V} (record { status = r .status; par = r .par; length = lengthOr (k .start) (k .decoded c) }) r
-  own-again r c e =
-      let l : lengthOr (k .start) (k .decoded c) ≡ r .length = ap (λ x. lengthOr (k .start) (k .decoded x)) e ∙ ap (lengthOr (k .start)) (laws .read-back (r .length)) in
-      λ i. record { status = r .status; par = r .par; length = l i }
+  -- a board with another record has that record, unless it is the root
+  pub own-again : (before after : Station) (r : Record V) → before .root ≡ false → Rewritten k before r after → ownOf k after ≡ r
+  own-again before after r common w =
+      let l : lengthOr (k .start) (k .decoded (after .code)) ≡ r .length = ap (λ x. lengthOr (k .start) (k .decoded x)) (w .code-is) ∙ ap (lengthOr (k .start)) (laws .read-back (r .length)) in
+      ap (λ b. cond b (rootOf k) (record { status = after .status; par = after .par; length = lengthOr (k .start) (k .decoded (after .code)) })) (w .root-is ∙ common)
+      ∙ (λ i. record { status = w .status-is i; par = w .par-is i; length = l i })
 
-  -- the station of a board that has moved to this record
-  abbrev next : Ready V → Record V → ℕ → Station
-  next before r c = record { root = false; status = r .status; par = r .par; code = c; ports = before .station .ports }
-
-  -- a board moves by the rules, and its record is written as numbers
-  pub by-rules : (before : Ready V) (own : Record V) (m : Move V) (c : ℕ) → before .station .root ≡ false → own ≡ ownOf k (before .station) → c ≡ k .coded (m .«record» .length) → Moves k own (seenIn k (before .station .ports) (now (before .ear))) (m .verdict) (m .«record») → MovesAs k (before .station .root) before (record { station = next before (m .«record») c; verdict = m .verdict; kind = record {} })
-  by-rules before own m c common e code moves =
+  -- a board that is not the root moves by the rules, and its record is written as numbers
+  pub by-rules : (before : Ready V) (after : Owing V) (own r : Record V) → before .station .root ≡ false → own ≡ ownOf k (before .station) → Rewritten k (before .station) r (after .station) → Moves k own (seenIn k (before .station .ports) (now (before .ear))) (after .verdict) r → MovesAs k (before .station .root) before after
+  by-rules before after own r common e w moves =
       let near = seenIn k (before .station .ports) (now (before .ear)) in
-      let told = subst (λ x. Moves k x near (m .verdict) (m .«record»)) e moves in
-      let after : Owing V = record { station = next before (m .«record») c; verdict = m .verdict; kind = record {} } in
+      let told = subst (λ x. Moves k x near (after .verdict) r) e moves in
       subst (λ b. MovesAs k b before after) (sym common) (record {
-        common = refl;
-        ports = refl;
-        moves = subst (λ x. Moves k (ownOf k (before .station)) near (m .verdict) x) (sym (own-again (m .«record») c code)) told;
+        common = w .root-is ∙ common;
+        ports = w .ports-are;
+        moves = subst (λ x. Moves k (ownOf k (before .station)) near (after .verdict) x) (sym (own-again (before .station) (after .station) r common w)) told;
       })
 
   -- a port that heard the far end of its cable shows what a hall shows

@@ -77,9 +77,3 @@ slot-long ear p long h = length-take-le 16 (drop (16 * p) ear) (simp length-drop
 -- what was read of a slot is all of it
 pub slot-chunk : (ear slot chunk : List ℕ) (p : ℕ) → slot ≡ slotAt ear p → chunk ≡ take 16 slot → chunk ≡ slotAt ear p
 slot-chunk ear slot chunk p e f = f ∙ ap (take 16) e ∙ take-take 16 16 (drop (16 * p) ear) (omega arith)
-
--- a frame that was copied to a slot
-pub copied : (ear part frame : List ℕ) (p : ℕ) → part ≡ frame → putMid (16 * p) (16 * p + 16 - 16 * p) ear part ≡ put ear p frame
-copied ear part frame p e =
-    ap (λ x. take (16 * p) ear ++ (x ++ drop (16 * p + 16 - 16 * p) (drop (16 * p) ear))) e
-    ∙ ap (λ x. take (16 * p) ear ++ (frame ++ x)) (post-is (16 * p) (16 * p + 16) ear (omega arith))

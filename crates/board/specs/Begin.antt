@@ -12,7 +12,7 @@ use Rattle.lengths.specs.Kind.{Kind}
 use Rattle.rules.specs.declared.record.Record.{Record}
 use Rattle.network.specs.Cables.{rootOf}
 use Rattle.hall.specs.Hall.{noRecord, Numbered}
-use Rattle.board.specs.Station.{weightsOf, ownOf}
+use Rattle.board.specs.Station.{GivenWeights, ownOf}
 use Rattle.board.specs.declared.fault.EarFault.{EarFault}
 use Rattle.board.specs.declared.fault.EarFault.the-variants.{Weight, Frame, Alien, Unwired, Unheard, Room, Ear}
 use Rattle.board.specs.declared.fault.EarFault.the-variants.{Record as BadRecord}
@@ -48,10 +48,20 @@ abbrev pub FirstRecord : {V : Type 0} → Kind V → Bool → ℕ → ℕ → �
 FirstRecord k true s p c own = own ≡ rootOf k
 FirstRecord k false s p c own = (noRecord k s p c ≡ false) × Numbered k s p c own
 
+-- the board as it begins: with these ports, and as the root if it is to be
+pub record FirstIs {V : Type 0} (k : Kind V) (root : Bool) (s p c : ℕ) (ports : Ports) (made : Station) : Type 0 where
+  pub root-is : made .root ≡ root
+  pub ports-are : made .ports ≡ ports
+  pub own : FirstRecord k root s p c (ownOf k made)
+
+abbrev pub FirstStation : {V : Type 0} → Kind V → Bool → ℕ → ℕ → ℕ → Ports → Option Station → Type 0
+FirstStation k root s p c ports None = (root ≡ false) × (noRecord k s p c ≡ true)
+FirstStation k root s p c ports (Some made) = FirstIs k root s p c ports made
+
 -- a board that begins: it has these weights, which are admitted, and has heard nothing
 pub record Begun {V : Type 0} (k : Kind V) (root : Bool) (s p c : ℕ) (weights : List (Option ℕ)) (made : Listening V) : Type 0 where
   pub root-is : made .station .root ≡ root
-  pub weights-are : weightsOf (made .station .ports) ≡ weights
+  pub weights-are : GivenWeights weights (made .station .ports)
   pub weighed : AllAdmitted k weights
   pub own : FirstRecord k root s p c (ownOf k (made .station))
   pub silent : made .heard ≡ 0

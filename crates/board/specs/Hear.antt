@@ -29,7 +29,7 @@ slotAt ear p = take 16 (drop (16 * p) ear)
 
 -- the ear with these 16 bytes in the slot of port p, and every other byte as it was
 abbrev pub put : List ℕ → ℕ → List ℕ → List ℕ
-put ear p frame = take (16 * p) ear ++ (frame ++ drop (16 * p + 16) ear)
+put ear p frame = take (16 * p) ear ++ (frame ++ drop 16 (drop (16 * p) ear))
 
 -- the bytes are the frame of a record that left by a port, and nothing else
 pub record IsFrame {V : Type 0} (k : Kind V) (bytes : List ℕ) : Type 0 where

@@ -1,14 +1,15 @@
 ghost use mathlib.Core.Path.{_≡_};
 ghost use denote.Ref.{now};
+ghost use Rattle.board.specs.Station.{ownOf};
 ghost use Rattle.board.specs.Move.{seenIn, Advances, AsInHall};
 use crate::ready::slot;
 use crate::states::Owing;
 use crate::states::Ready;
-use crate::station::Station;
 use frames::read_record;
 use lengths::Length;
 use rules::Move;
 use rules::Neighbourhood;
+use rules::Record;
 use rules::Seen;
 use rules::moved;
 use std::marker::PhantomData;
@@ -34,6 +35,13 @@ pub(crate) impl<'e, L: Length> Neighbourhood<L> for Ready<'e, L> as EarNeighbour
 }
 
 impl<'e, L: Length> Ready<'e, L> {
+    // The board's record.
+    pub fn own(&self) -> Record<L>
+        ensures { λ r. ⌜ r ≡ ownOf (L·Length .meaning) (now (self .entry) .station) ⌝ }
+    {
+        self.station.own()
+    }
+
     // Moves by the rules, and owes the record from then on, also where no rule is enabled. The root stays as it is.
     pub fn advance(self) -> Owing<L>
         ensures moves { λ r. ⌜ Advances (L·Length .meaning) (self .entry) r ⌝ }
@@ -47,15 +55,8 @@ impl<'e, L: Length> Ready<'e, L> {
             };
         }
         let Move { verdict, record } = moved(self.own(), &self);
-        let station = Station {
-            root: false,
-            status: record.status,
-            par: record.par,
-            code: record.length.code(),
-            ports: self.station.ports,
-        };
         Owing {
-            station,
+            station: self.station.with(record),
             verdict,
             kind: PhantomData,
         }

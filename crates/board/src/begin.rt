@@ -1,12 +1,13 @@
 ghost use mathlib.Core.Path.{_≡_};
 ghost use Rattle.std.specs.Orderings.{When};
-ghost use Rattle.board.specs.Station.{weightsOf};
-ghost use Rattle.board.specs.Begin.{fine, AllAdmitted, SomeUnadmitted, ReadsStation, Begins};
+ghost use Rattle.board.specs.Station.{ownOf};
+ghost use Rattle.board.specs.Begin.{fine, AllAdmitted, SomeUnadmitted, ReadsStation, FirstStation, Begins};
 use crate::fault::EarFault;
 use crate::ports::Ports;
 use crate::states::Listening;
 use crate::station::Station;
 use lengths::Length;
+use rules::Record;
 use rules::Status;
 use std::marker::PhantomData;
 
@@ -21,11 +22,11 @@ fn fits<L: Length>(weight: Option<u32>) -> bool
 }
 
 // Whether the weight of every wired port is admitted.
-fn admitted<L: Length>(ports: Ports) -> bool
-    ensures { λ r. ⌜ When r (AllAdmitted (L·Length .meaning) (weightsOf ports)) (SomeUnadmitted (L·Length .meaning) (weightsOf ports)) ⌝ }
+fn admitted<L: Length>(weights: [Option<u32>; 8]) -> bool
+    ensures { λ r. ⌜ When r (AllAdmitted (L·Length .meaning) weights) (SomeUnadmitted (L·Length .meaning) weights) ⌝ }
 {
-    for port in 0..8u32 {
-        if !fits::<L>(ports.weight(port)) {
+    for port in 0..8usize {
+        if !fits::<L>(weights[port]) {
             return false;
         }
     }
@@ -52,8 +53,30 @@ fn read_station<L: Length>(status: u32, par: u32, code: u64, ports: Ports) -> Op
     })
 }
 
+// The board as it begins: the root's record is not read.
+fn first_station<L: Length>(
+    root: bool,
+    status: u32,
+    par: u32,
+    code: u64,
+    ports: Ports,
+) -> Option<Station>
+    ensures { λ r. ⌜ FirstStation (L·Length .meaning) root status par code ports r ⌝ }
+{
+    if !root {
+        return read_station::<L>(status, par, code, ports);
+    }
+    Some(Station {
+        root,
+        status: Status::C,
+        par: 255,
+        code: L::start().code(),
+        ports,
+    })
+}
+
 impl<L: Length> Listening<L> {
-    // A board that has heard nothing yet. The root's record is not read: it is always C, 255 and the start.
+    // A board that has heard nothing yet. The root's record is always C, 255 and the start, whatever the numbers.
     pub fn begin(
         root: bool,
         status: u32,
@@ -63,28 +86,24 @@ impl<L: Length> Listening<L> {
     ) -> Result<Listening<L>, EarFault>
         ensures { λ r. ⌜ Begins (L·Length .meaning) root status par code weights r ⌝ }
     {
-        let ports = Ports::new(weights);
-        if !admitted::<L>(ports) {
+        if !admitted::<L>(weights) {
             return Err(EarFault::Weight);
         }
-        let station = if root {
-            Station {
-                root: true,
-                status: Status::C,
-                par: 255,
-                code: L::start().code(),
-                ports,
-            }
-        } else {
-            let Some(station) = read_station::<L>(status, par, code, ports) else {
-                return Err(EarFault::Record);
-            };
-            station
+        let ports = Ports::new(weights);
+        let Some(station) = first_station::<L>(root, status, par, code, ports) else {
+            return Err(EarFault::Record);
         };
         Ok(Listening {
             station,
             heard: 0,
             kind: PhantomData,
         })
+    }
+
+    // The board's record.
+    pub fn own(&self) -> Record<L>
+        ensures { λ r. ⌜ r ≡ ownOf (L·Length .meaning) (now (self .entry) .station) ⌝ }
+    {
+        self.station.own()
     }
 }

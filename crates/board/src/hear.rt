@@ -1,5 +1,7 @@
 ghost use mathlib.Core.Path.{_≡_};
-ghost use Rattle.board.specs.Hear.{ChecksFrame, Hears};
+ghost use Prim.Native.Nat.{_+_, _*_, _≤_};
+ghost use lib.ListN.{length};
+ghost use Rattle.board.specs.Hear.{put, ChecksFrame, Hears};
 use crate::fault::EarFault;
 use crate::states::Listening;
 use frames::FrameFault;
@@ -38,6 +40,23 @@ pub(crate) fn frame_fault<L: Length>(bytes: &[u8]) -> Option<EarFault>
     }
 }
 
+// Where the slot of a port starts in an ear.
+pub(crate) fn slot_start(port: u32) -> usize
+    ensures { λ r. ⌜ r ≡ 16 * port ⌝ }
+{
+    16 * port as usize
+}
+
+// Puts a frame into the slot of a port.
+fn put_frame(ear: &mut [u8], port: u32, frame: &[u8])
+    requires room { ⌜ 16 * port + 16 ≤ length (now ear) ⌝ }
+    requires frame { ⌜ length (now frame) ≡ 16 ⌝ }
+    ensures { λ _. ⌜ now (ear .exit) ≡ put (now (ear .entry)) port (now (frame .entry)) ⌝ }
+{
+    let start = slot_start(port);
+    ear[start..start + 16].copy_from_slice(frame);
+}
+
 impl<L: Length> Listening<L> {
     // Hears the record frame that came in at a port: puts it into the port's slot of the ear.
     pub fn hear(
@@ -57,8 +76,7 @@ impl<L: Length> Listening<L> {
         if let Some(fault) = frame_fault::<L>(frame) {
             return Err((self, fault));
         }
-        let start = 16 * port as usize;
-        ear[start..start + 16].copy_from_slice(frame);
+        put_frame(ear, port, frame);
         Ok(Listening {
             station: self.station,
             heard: with(self.heard, port),

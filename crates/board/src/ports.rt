@@ -1,5 +1,5 @@
 ghost use mathlib.Core.Path.{_≡_};
-ghost use Rattle.board.specs.Station.{weightsOf, weightAt, wiredAt};
+ghost use Rattle.board.specs.Station.{GivenWeights, weightAt, wiredAt};
 
 // The weight of the cable at each port that is wired.
 #[derive(Clone, Copy)]
@@ -16,7 +16,7 @@ pub(crate) struct Ports {
 
 impl Ports {
     pub(crate) fn new(weights: [Option<u32>; 8]) -> Ports
-        ensures { λ r. ⌜ weightsOf r ≡ weights ⌝ }
+        ensures { λ r. ⌜ GivenWeights weights r ⌝ }
     {
         let [
             weight0,

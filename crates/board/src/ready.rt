@@ -6,6 +6,7 @@ ghost use Rattle.board.specs.Hear.{slotAt};
 ghost use Rattle.board.specs.Ready.{AllHeard, SomeUnheard, ChecksSlots, Readies};
 use crate::fault::EarFault;
 use crate::hear::frame_fault;
+use crate::hear::slot_start;
 use crate::ports::Ports;
 use crate::states::Listening;
 use crate::states::Ready;
@@ -19,7 +20,7 @@ pub(crate) fn slot(ear: &[u8], port: u32) -> &[u8]
     requires port { ⌜ port < 8 ⌝ }
     ensures { λ r. ⌜ now r ≡ slotAt (now (ear .entry)) port ⌝ }
 {
-    let start = 16 * port as usize;
+    let start = slot_start(port);
     &ear[start..start + 16]
 }
 

@@ -1,8 +1,5 @@
 ghost use mathlib.Core.Path.{_≡_};
-ghost use Rattle.board.specs.Station.{ownOf};
 use crate::station::Station;
-use lengths::Length;
-use rules::Record;
 use rules::Verdict;
 use std::marker::PhantomData;
 
@@ -29,36 +26,16 @@ pub struct Owing<L> {
     pub(crate) kind: PhantomData<L>,
 }
 
-impl<L: Length> Listening<L> {
-    // The board's record.
-    pub fn own(&self) -> Record<L>
-        ensures { λ r. ⌜ r ≡ ownOf (L·Length .meaning) (now (self .entry) .station) ⌝ }
+impl<L> Listening<L> {
+    // A board that has heard nothing.
+    pub(crate) fn anew(station: Station) -> Listening<L>
+        ensures same { λ r. ⌜ r .station ≡ station ⌝ }
+        ensures silent { λ r. ⌜ r .heard ≡ 0 ⌝ }
     {
-        self.station.own()
-    }
-}
-
-impl<'e, L: Length> Ready<'e, L> {
-    // The board's record.
-    pub fn own(&self) -> Record<L>
-        ensures { λ r. ⌜ r ≡ ownOf (L·Length .meaning) (now (self .entry) .station) ⌝ }
-    {
-        self.station.own()
-    }
-}
-
-impl<L: Length> Owing<L> {
-    // The board's record.
-    pub fn own(&self) -> Record<L>
-        ensures { λ r. ⌜ r ≡ ownOf (L·Length .meaning) (now (self .entry) .station) ⌝ }
-    {
-        self.station.own()
-    }
-
-    // The rule by which the board moved, if by one.
-    pub fn verdict(&self) -> Option<Verdict>
-        ensures { λ r. ⌜ r ≡ now (self .entry) .verdict ⌝ }
-    {
-        self.verdict
+        Listening {
+            station,
+            heard: 0,
+            kind: PhantomData,
+        }
     }
 }

@@ -1,5 +1,5 @@
 ghost use mathlib.Core.Path.{_≡_};
-ghost use Rattle.board.specs.Station.{ownOf};
+ghost use Rattle.board.specs.Station.{ownOf, Rewritten};
 use crate::ports::Ports;
 use lengths::Length;
 use rules::Record;
@@ -35,6 +35,24 @@ impl Station {
             status: self.status,
             par: self.par,
             length,
+        }
+    }
+
+    // The board with another record.
+    pub(crate) fn with<L: Length>(self, own: Record<L>) -> Station
+        ensures { λ r. ⌜ Rewritten (L·Length .meaning) self own r ⌝ }
+    {
+        let Record {
+            status,
+            par,
+            length,
+        } = own;
+        Station {
+            root: self.root,
+            status,
+            par,
+            code: length.code(),
+            ports: self.ports,
         }
     }
 }

@@ -1,9 +1,10 @@
 ghost use mathlib.Core.Path.{_≡_};
-ghost use mathlib.Core.List.{_++_};
-ghost use Prim.Native.Nat.{_+_, _<_, _≤_};
+ghost use mathlib.Core.List.{List, _++_};
+ghost use Prim.Native.Nat.{ℕ, _+_, _*_, _<_, _≤_};
 ghost use lib.ListN.{length, take, drop};
 ghost use Rattle.frames.specs.Record.{frameOf};
-ghost use Rattle.board.specs.Tell.{framesBelow, tellSize, Tells};
+ghost use Rattle.board.specs.Station.{ownOf};
+ghost use Rattle.board.specs.Tell.{wiredBelow, framesBelow, tellSize, Tells};
 use crate::fault::EarFault;
 use crate::ports::Ports;
 use crate::states::Listening;
@@ -12,7 +13,7 @@ use frames::write_frame;
 use lengths::Length;
 use rules::Record;
 use rules::RecordClone;
-use std::marker::PhantomData;
+use rules::Verdict;
 
 // How many bytes a board with these ports tells.
 fn tell_size(ports: Ports) -> usize
@@ -38,6 +39,27 @@ fn write_port<L: Length>(own: Record<L>, port: u8, out: &mut [u8], start: usize)
     }
 }
 
+// Writes the frame for a port behind those of the lower ports, where it is wired; the answer is how many bytes there are now.
+fn tell_port<L: Length>(
+    own: Record<L>,
+    ports: Ports,
+    port: u8,
+    out: &mut [u8],
+    size: usize,
+) -> usize
+    requires port { ⌜ port < 8 ⌝ }
+    requires room { ⌜ tellSize ports ≤ length (now out) ⌝ }
+    requires size { ⌜ size ≡ 16 * wiredBelow ports port ⌝ }
+    ensures size { λ r. ⌜ r ≡ 16 * wiredBelow ports (port + 1) ⌝ }
+    ensures out { λ r. ⌜ ((first : List ℕ) → now (out .entry) ≡ framesBelow (L·Length .meaning) own ports port ++ drop size first → now (out .exit) ≡ framesBelow (L·Length .meaning) own ports (port + 1) ++ drop r first) ⌝ }
+{
+    if !ports.wired(u32::from(port)) {
+        return size;
+    }
+    write_port(own, port, out, size);
+    size + 16
+}
+
 // Writes a frame of the record for each wired port, one behind the other.
 fn write_frames<L: Length>(own: Record<L>, ports: Ports, out: &mut [u8]) -> usize
     requires { ⌜ tellSize ports ≤ length (now out) ⌝ }
@@ -46,15 +68,26 @@ fn write_frames<L: Length>(own: Record<L>, ports: Ports, out: &mut [u8]) -> usiz
 {
     let mut size = 0;
     for port in 0..8u8 {
-        if ports.wired(u32::from(port)) {
-            write_port(own, port, out, size);
-            size += 16;
-        }
+        size = tell_port(own, ports, port, out, size);
     }
     size
 }
 
 impl<L: Length> Owing<L> {
+    // The board's record.
+    pub fn own(&self) -> Record<L>
+        ensures { λ r. ⌜ r ≡ ownOf (L·Length .meaning) (now (self .entry) .station) ⌝ }
+    {
+        self.station.own()
+    }
+
+    // The rule by which the board moved, if by one.
+    pub fn verdict(&self) -> Option<Verdict>
+        ensures { λ r. ⌜ r ≡ now (self .entry) .verdict ⌝ }
+    {
+        self.verdict
+    }
+
     // Tells the record to every neighbour, by a frame for each wired port in the output; then the board listens again.
     pub fn tell(self, out: &mut [u8]) -> Result<(usize, Listening<L>), (Owing<L>, EarFault)>
         ensures { λ r. ⌜ Tells (L·Length .meaning) self (now (out .entry)) r (now (out .exit)) ⌝ }
@@ -66,13 +99,8 @@ impl<L: Length> Owing<L> {
         let Owing {
             station,
             verdict: _,
-            kind,
+            kind: _,
         } = self;
-        let listening = Listening {
-            station,
-            heard: 0,
-            kind,
-        };
-        Ok((size, listening))
+        Ok((size, Listening::anew(station)))
     }
 }

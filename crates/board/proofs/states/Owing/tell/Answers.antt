@@ -13,6 +13,6 @@ returns g c =
       room = omega (arith, c .tell-size .ensures, c .if-out-tell-size .left);
       size-is = wrote .ensures .size;
       out-is = wrote .ensures .out ∙ ap (λ own. framesBelow (g .L·Length .meaning) own ports 8 ++ drop (wrote .result) (c .args .out .now)) (c .own .ensures);
-      same = refl;
-      silent = refl;
+      same = c .anew .ensures .same;
+      silent = c .anew .ensures .silent;
     }
