@@ -2,7 +2,7 @@
 use mathlib.Core.Path.{_≡_, refl, sym, ap, ap₂, subst, _∙_}
 use mathlib.Core.Bool.{Bool, true, false, cond, _&&_}
 use mathlib.Core.List.{List}
-use Prim.Native.Nat.{ℕ, _+_, _≤_, _<_}
+use Prim.Native.Nat.{ℕ, _≤_}
 use native.Mathlib.Omega.{arith}
 use denote.Ref.{now}
 use lib.Dec.{leb, eqb}
@@ -13,22 +13,20 @@ use Rattle.std.specs.declared.option.Option.the-variants.{Some, None}
 use Rattle.lengths.specs.Kind.{Kind, Laws}
 use Rattle.rules.specs.Rules.{Moves}
 use Rattle.rules.specs.Status.{numberOf}
-use Rattle.rules.specs.declared.neighbourhood.Seen.{Seen}
 use Rattle.rules.specs.declared.record.Record.{Record}
 use Rattle.rules.specs.declared.record.Status.{Status}
 use Rattle.rules.specs.declared.record.Status.the-variants.{I, C, EB, EF}
-use Rattle.rules.specs.declared.record.Verdict.{Verdict}
 use Rattle.network.specs.Cables.{around, shown, rootOf}
 use Rattle.network.specs.declared.End.{End}
 use Rattle.hall.specs.Hall.{MoveOn}
 use Rattle.hall.proofs.Verdicts.{move-of}
-use Rattle.frames.specs.Record.{bodyOf, frameOf, Fields, codeIn, Unreadable}
+use Rattle.frames.specs.Record.{bodyOf, Fields, codeIn, Unreadable}
 use Rattle.frames.specs.declared.fault.FrameFault.{FrameFault}
 use Rattle.frames.specs.declared.fault.FrameFault.the-variants.{Short, Extent, Size, Field, Code}
 use Rattle.frames.proofs.Bytes.{at-drop}
 use Rattle.frames.proofs.Records.{code-written, fields-written}
 use Rattle.board.specs.Hear.{slotAt}
-use Rattle.board.specs.Move.{statusOf, legible, shownBy, sight, seenIn, ByRules, MovesAs, HearsEnd, UpToDate, AsInHall}
+use Rattle.board.specs.Move.{statusOf, legible, shownBy, sight, seenIn, MovesAs, HearsEnd, AsInHall}
 use Rattle.board.specs.Station.{weightAt, lengthOr, ownOf, Rewritten}
 use Rattle.board.specs.declared.ports.Ports.{Ports}
 use Rattle.board.specs.declared.states.Owing.{Owing}

@@ -1,24 +1,23 @@
 -- Bytes that are a record's frame, and ports that were heard.
 use mathlib.Core.Path.{_≡_, refl, sym, ap, subst, _∙_}
 use mathlib.Core.Bool.{Bool, true, false, _&&_, _||_}
-use mathlib.Core.List.{List, _++_}
-use Prim.Native.Nat.{ℕ, _+_, _-_, _*_, _<_, _≤_}
+use mathlib.Core.List.{List}
+use Prim.Native.Nat.{ℕ, _*_, _<_, _≤_}
 use native.Mathlib.Omega.{arith}
 use lib.Dec.{eqb, ltb}
 use lib.ListN.{length, getD, take, drop}
 use borrow.Author.Tests.{lt-ltb}
-use borrow.Rule.Slice.PartMut.{putMid, post-is}
 use Rattle.std.proofs.shelf.Lists.{take-all, take-take, length-take-le, length-drop}
 use Rattle.lengths.specs.Kind.{Kind}
 use Rattle.rules.specs.Status.{numberOf}
 use Rattle.rules.specs.declared.record.Record.{Record}
 use Rattle.sets.specs.Sets.{has}
 use Rattle.frames.specs.Record.{bodyOf, Unreadable}
-use Rattle.frames.specs.Stream.{recorded, headLength, headKind, Whole, RecordHead}
+use Rattle.frames.specs.Stream.{recorded, headLength, RecordHead}
 use Rattle.frames.specs.declared.fault.FrameFault.{FrameFault}
 use Rattle.frames.specs.declared.fault.FrameFault.the-variants.{Short, Extent, Size, Field, Code}
 use Rattle.frames.proofs.Fronts.{front-record}
-use Rattle.board.specs.Hear.{slotAt, put, IsFrame, Sole, Misframed}
+use Rattle.board.specs.Hear.{slotAt, IsFrame, Sole, Misframed}
 use Rattle.board.specs.Ready.{AllHeard, FirstMisframed, Unready}
 use Rattle.board.specs.declared.fault.EarFault.{EarFault}
 use Rattle.board.specs.declared.fault.EarFault.the-variants.{Weight, Frame, Alien, Unwired, Unheard, Room, Ear}

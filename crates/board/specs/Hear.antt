@@ -1,6 +1,6 @@
 -- Hearing a frame: what an ear holds, which bytes are a record's frame, and what hear does.
 use mathlib.Core.Path.{_≡_}
-use mathlib.Core.Bool.{Bool, true, false, _||_}
+use mathlib.Core.Bool.{true, false, _||_}
 use mathlib.Core.Logic.{_≢_}
 use mathlib.Core.List.{List, _++_}
 use Prim.Native.Nat.{ℕ, _+_, _*_, _≤_}
@@ -15,7 +15,6 @@ use Rattle.rules.specs.declared.record.Record.{Record}
 use Rattle.sets.specs.Sets.{has}
 use Rattle.frames.specs.Record.{frameOf}
 use Rattle.frames.specs.Stream.{headLength, headKind, Whole, Damage}
-use Rattle.frames.specs.declared.fault.FrameFault.{FrameFault}
 use Rattle.frames.specs.declared.fault.FrameFault.the-variants.{Short, Extent, Size, Field, Code}
 use Rattle.board.specs.Station.{wiredAt}
 use Rattle.board.specs.declared.fault.EarFault.{EarFault}

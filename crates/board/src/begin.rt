@@ -9,7 +9,6 @@ use crate::station::Station;
 use lengths::Length;
 use rules::Record;
 use rules::Status;
-use std::marker::PhantomData;
 
 // Whether a port may have this weight; one that is not wired has none.
 fn fits<L: Length>(weight: Option<u32>) -> bool
@@ -93,11 +92,7 @@ impl<L: Length> Listening<L> {
         let Some(station) = first_station::<L>(root, status, par, code, ports) else {
             return Err(EarFault::Record);
         };
-        Ok(Listening {
-            station,
-            heard: 0,
-            kind: PhantomData,
-        })
+        Ok(Listening::anew(station))
     }
 
     // The board's record.

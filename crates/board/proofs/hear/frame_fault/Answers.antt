@@ -2,9 +2,9 @@ use mathlib.Core.Path.{_≡_, _∙_}
 use native.Mathlib.Omega.{arith}
 use Prim.Native.Nat.{ℕ, _<_}
 use denote.Ref.{now}
-use lib.ListN.{getD, length}
+use lib.ListN.{getD}
 use Rattle.std.proofs.shelf.Lists.{take-all}
-use Rattle.frames.specs.Stream.{Whole, RecordHead, headKind, headLength}
+use Rattle.frames.specs.Stream.{Whole, RecordHead}
 use Rattle.board.specs.Hear.{Sole}
 use Rattle.board.proofs.Slots.{is-frame, misread}
 use Rattle.board.proofs.hear.frame_fault.Needs as need
