@@ -32,13 +32,6 @@ pub record Turning {V : Type 0} (k : Kind V) (h : Hall V) (chosen : Bool) (b : �
 abbrev pub Midway : {V : Type 0} → Kind V → Hall V → ℕ → ℕ → List (Record V) → List Tally → Type 0
 Midway k h s m rs ts = (b : ℕ) → Turning k h (ltb b m && has s b) b (recOf k rs b) (getD ts b nothing)
 
-idle : {V : Type 0} (k : Kind V) (h : Hall V) (b : ℕ) (chosen : Bool) → chosen ≡ false → Turning k h chosen b (recordsIn k h b) (getD (h .tallies) b nothing)
-idle k h b true e = let z : _≡_ {A = ℕ} 0 1 = cc in absurd (omega arith)
-idle k h b false e = record { by = None; moves = refl; part = refl; counts = λ v. refl }
-
-pub before-all : {V : Type 0} (k : Kind V) (h : Hall V) (s : ℕ) → Midway k h s 0 (h .ledger .records) (h .tallies)
-before-all k h s b = idle k h b _ (ap (λ t. t && has s b) (le-ltb b 0 (omega arith)))
-
 -- whether a board is below m + 1, other than m
 same-side : (b m : ℕ) → (b ≡ m → ⊥) → ltb b m ≡ ltb b (m + 1)
 same-side b m ne =
