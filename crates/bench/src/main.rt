@@ -1,4 +1,6 @@
 // Reads a script from standard input and prints its transcript.
+#![tactic(auto)]
+
 use session::transcript;
 use std::io;
 use std::io::{Read, Write};

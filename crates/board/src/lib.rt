@@ -1,4 +1,6 @@
 // A board end: the rules in a board that knows its own record, its wired ports and what its neighbours last told it.
+#![tactic(auto)]
+
 mod advance;
 mod begin;
 mod fault;

@@ -1,4 +1,6 @@
 // Three boards and a server tell each other their records in frames until nobody has a verdict, and end as the bench does.
+#![tactic(auto)]
+
 mod bench;
 mod seat;
 

@@ -1,4 +1,6 @@
 // Reads a line of a script as a command, or tells why it is none. Nothing is allocated.
+#![tactic(auto)]
+
 mod boards;
 mod command;
 mod fields;

@@ -1,4 +1,6 @@
 // Worked examples of lengths, rules, turns and pickers, proved against their definitions.
+#![tactic(auto)]
+
 ghost use Rattle.std.specs.Prelude.{◌≡◌, [], ◌∷◌};
 ghost use Rattle.examples.specs.Hall.{settled_h};
 ghost use Rattle.examples.specs.Examples.{Examples};

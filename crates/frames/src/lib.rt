@@ -1,4 +1,6 @@
 // Frames: how a board's record travels over a cable, and how a stream of frames is read again.
+#![tactic(auto)]
+
 mod fault;
 mod item;
 mod reader;

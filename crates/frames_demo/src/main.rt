@@ -1,4 +1,6 @@
 // Reads stored streams of frames, good and damaged, and prints what each frame tells and where.
+#![tactic(auto)]
+
 use frames::{Item, Reader, survey_stream, write_frame};
 use lengths::{Length, Metres};
 use rules::{Record, Status};

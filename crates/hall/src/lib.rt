@@ -1,4 +1,6 @@
 // A hall of boards: its cables, records and tallies, and the calls that change or question them.
+#![tactic(auto)]
+
 mod cabling;
 mod changes;
 mod fault;

@@ -1,4 +1,6 @@
 // Kinds of length: what a way through the hall can be measured in.
+#![tactic(auto)]
+
 mod grade;
 mod length;
 mod metres;

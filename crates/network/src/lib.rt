@@ -1,4 +1,5 @@
 // Boards and cables as plain functions: what a hall is, however it is stored.
+#![tactic(auto)]
 
 // The far end of the cable at a port: the board and the port there, and the cable's weight.
 #[derive(Clone, Copy)]

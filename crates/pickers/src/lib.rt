@@ -1,4 +1,6 @@
 // Pickers: who moves next, of the boards that may.
+#![tactic(auto)]
+
 mod all;
 mod picker;
 mod ring;

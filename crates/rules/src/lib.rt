@@ -1,4 +1,6 @@
 // The rules by which a board judges its record and repairs it, over whatever a board can see of its neighbours.
+#![tactic(auto)]
+
 mod judge;
 mod moves;
 mod neighbourhood;

@@ -1,4 +1,6 @@
 // Prints the transcripts of a script from standard input and of scripts that are as long as they may be, too long and empty.
+#![tactic(auto)]
+
 use session::transcript;
 use std::io;
 use std::io::{Read, Write};

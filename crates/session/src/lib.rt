@@ -1,4 +1,6 @@
 // Answers a script: each line is read as a command, a hall obeys it, and the answers are written as a transcript.
+#![tactic(auto)]
+
 mod fault;
 mod obey;
 mod session;

@@ -1,4 +1,6 @@
 // Sets of boards as the bits of a u64: bit b stands for board b.
+#![tactic(auto)]
+
 mod members;
 
 ghost use Rattle.std.specs.Prelude.{◌≡◌, ℕ, ◌<◌, ◌≤◌, true, false, not, ◌&&◌, ◌||◌, MatchOption, ◌==◌, nat_lt};

@@ -1,4 +1,6 @@
 // Cuts a script into lines and a line into words, and reads numerals. Nothing is copied: the pieces borrow the script.
+#![tactic(auto)]
+
 ghost use Rattle.std.specs.Prelude.{◌≡◌, ℕ, ◌<◌, ◌≤◌, [], length, take, Decides, MatchOption, slice_index};
 ghost use Rattle.words.specs.Pieces.{Lacks, Cut, First};
 ghost use Rattle.words.specs.Lines.{FirstLine};
