@@ -5,28 +5,28 @@ use Rattle.words.specs.Words.{Word}
 use Rattle.words.proofs.Counting.{some_first, none, last, more, shorter}
 use Rattle.words.proofs.word_count.Goals as goal
 
-pub returns-then-not-is-word : goal.returns-then-not-is-word
-returns-then-not-is-word c =
+pub returns-then-not-is_word : goal.returns-then-not-is_word
+returns-then-not-is_word c =
     let rest = c.loop-after.rest.now in
     let front = c.cut.result.0.now in
     let part = some_first rest front c.cut.result.1 c.cut.ensures in
     none c.args.line.now rest front part.0 c.loop-after.count c.loop-after.invariant part.1
-    (λ w. both_ways c.is-word.result c.if-not-is-word.true (c.is-word.ensures.1 w))
+    (λ w. both_ways c.is_word.result c.if-not-is_word.true (c.is_word.ensures.1 w))
 
-pub returns-in-default : goal.returns-in-default
-returns-in-default c =
+pub returns-in_default : goal.returns-in_default
+returns-in_default c =
     let rest = c.loop-after.rest.now in
     let front = c.cut.result.0.now in
-    let whole : Cut 32 rest front None = subst (Cut 32 rest front) c.in-default.is c.cut.ensures in
+    let whole : Cut 32 rest front None = subst (Cut 32 rest front) c.in_default.is c.cut.ensures in
     last c.args.line.now rest c.loop-after.count c.loop-after.invariant
-    (subst Word (sym whole.1) (c.is-word.ensures.0 c.if-not-is-word.false))
+    (subst Word (sym whole.1) (c.is_word.ensures.0 c.if-not-is_word.false))
 
 -- the word, the space and what follows are what was left
 parts : (c : goal.In-Some) → Cut 32 c.loop-after.rest.now c.cut.result.0.now (Some c.in-Some.after)
 parts c = subst (Cut 32 c.loop-after.rest.now c.cut.result.0.now) c.in-Some.is c.cut.ensures
 
-pub overflow-add-count : goal.overflow-add-count
-overflow-add-count c =
+pub overflow_add-count : goal.overflow_add-count
+overflow_add-count c =
     omega (arith, c.loop-after.invariant.few, shorter c.loop-after.rest.now c.cut.result.0.now c.in-Some.after.now (parts c).1)
 
 pub loop-after-smaller : goal.loop-after-smaller
@@ -35,4 +35,4 @@ loop-after-smaller c = shorter c.loop-after.rest.now c.cut.result.0.now c.in-Som
 pub loop-after-preserved : goal.loop-after-preserved
 loop-after-preserved c =
     more c.args.line.now c.loop-after.rest.now c.cut.result.0.now c.in-Some.after.now c.loop-after.count
-    c.loop-after.invariant (c.is-word.ensures.0 c.if-not-is-word.false) (parts c).0 (parts c).1
+    c.loop-after.invariant (c.is_word.ensures.0 c.if-not-is_word.false) (parts c).0 (parts c).1

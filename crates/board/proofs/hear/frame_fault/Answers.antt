@@ -9,7 +9,7 @@ pub returns-in-Ok : goal.returns-in-Ok
 returns-in-Ok g c =
     let bytes = c.args.bytes.now in
     let same : c.in-Some.fields.now ≡ bytes = c.in-Some.ensures.cases.same ∙ take_all 16 _ (omega arith) in
-    let small : (i : ℕ) → get_or bytes i 0 < 256 = λ i. (c.type-inv.bytes i).fits in
+    let small : (i : ℕ) → get_or bytes i 0 < 256 = λ i. (c.type_inv.bytes i).fits in
     let w : Whole bytes = record { head = omega arith; least = omega arith; within = omega arith } in
     let head : RecordHead bytes = record { whole = w; kind_is = omega arith; length_is = omega arith } in
     let sole : Sole bytes = record { kind_is = omega arith; all = omega arith } in

@@ -3,14 +3,14 @@ use Rattle.board.specs.Station.{wired_at}
 use Rattle.board.proofs.Telling.{wired_few, wired_next, wired_room, one_told, none_told}
 use Rattle.board.proofs.tell.tell_port.Goals as goal
 
-pub write-port-requires : goal.write-port-requires
-write-port-requires g c =
+pub write_port-requires : goal.write_port-requires
+write_port-requires g c =
     let wired : wired_at c.args.ports c.args.port ≡ true = ap (wired_at c.args.ports) (sym c.from.ensures) ∙ sym c.if-not-wired.ensures in
     let room = wired_room c.args.ports c.args.port c.requires.port wired in
     record { port = c.requires.port; room = omega arith }
 
-pub overflow-add-result : goal.overflow-add-result
-overflow-add-result g c =
+pub overflow_add-result : goal.overflow_add-result
+overflow_add-result g c =
     let wired : wired_at c.args.ports c.args.port ≡ true = ap (wired_at c.args.ports) (sym c.from.ensures) ∙ sym c.if-not-wired.ensures in
     let room = wired_room c.args.ports c.args.port c.requires.port wired in
     let few = wired_few c.args.ports 8 in
@@ -30,5 +30,5 @@ returns g c =
     let next = wired_next s c.args.port true wired in
     record {
       size = omega arith;
-      out = λ first was. one_told g.L.Length.meaning c.args.own s c.args.port c.args.size first c.args.out.now _ wired c.requires.size was c.write-port.ensures;
+      out = λ first was. one_told g.L.Length.meaning c.args.own s c.args.port c.args.size first c.args.out.now _ wired c.requires.size was c.write_port.ensures;
     }

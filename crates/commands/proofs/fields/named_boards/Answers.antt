@@ -4,13 +4,13 @@ use Rattle.commands.proofs.Taking.{none_taken, one_taken, missed, all_taken, som
 use Rattle.commands.proofs.Members.{set_none}
 use Rattle.commands.proofs.fields.named_boards.Goals as goal
 
-pub returns-in-default : goal.returns-in-default
-returns-in-default c = λ fs h.
+pub returns-in_default : goal.returns-in_default
+returns-in_default c = λ fs h.
     let all = c.loop-rest.invariant fs h in
     let t = all.1 in
     let rest = c.loop-rest.rest.now in
     let some = eqb-false (length rest) 0 (sym c.loop-rest-test.ensures) in
-    missed fs t.0 rest all.0 t.1 (some_left t.0 rest t.1.over (omega arith)) c.in-default.ensures.takes
+    missed fs t.0 rest all.0 t.1 (some_left t.0 rest t.1.over (omega arith)) c.in_default.ensures.takes
 
 pub loop-rest-preserved : goal.loop-rest-preserved
 loop-rest-preserved c = λ fs h.

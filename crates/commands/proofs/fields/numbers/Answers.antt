@@ -12,12 +12,12 @@ some_left n i found rest fs gs more long all t = omega (arith, t.count, length-t
 pub loop-i-init : goal.loop-i-init
 loop-i-init g c = (length-replicate g.row.N 0, λ fs h e. none_taken fs c.args.fields.now h)
 
-pub returns-in-default : goal.returns-in-default
-returns-in-default g c = λ fs h e.
+pub returns-in_default : goal.returns-in_default
+returns-in_default g c = λ fs h e.
     let t = c.loop-i.invariant.1 fs h e in
     missed fs t.0 c.loop-i.rest.now (take c.loop-i.i c.loop-i.found) t.1
     (some_left g.row.N c.loop-i.i c.loop-i.found c.loop-i.rest.now fs t.0 c.loop-i-test.true c.loop-i.invariant.0 e t.1)
-    c.in-default.ensures.takes
+    c.in_default.ensures.takes
 
 pub loop-i-preserved : goal.loop-i-preserved
 loop-i-preserved g c = (

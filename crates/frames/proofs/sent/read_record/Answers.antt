@@ -4,8 +4,8 @@ use Rattle.frames.specs.Record.{Fields, code_in}
 use Rattle.frames.proofs.Records.{Bytes, body_read, accepts, refuses}
 use Rattle.frames.proofs.sent.read_record.Goals as goal
 
-pub returns-in-default-read : goal.returns-in-default-read
-returns-in-default-read g c = refuses g.L.Length.lawful _ _ (search rules)
+pub returns-in_default-read : goal.returns-in_default-read
+returns-in_default-read g c = refuses g.L.Length.lawful _ _ (search rules)
 
 pub returns : goal.returns
 returns g c =

@@ -6,5 +6,5 @@ pub returns : goal.returns
 returns g c =
     let n = c.number-status.ensures in
     let d = c.code.ensures in
-    let b = c.to-le-bytes.ensures in
+    let b = c.to_le_bytes.ensures in
     writes g.L.Length.lawful c.args.record c.args.port _ (omega arith) (grind arith)

@@ -5,7 +5,7 @@ use Rattle.session.proofs.Answering.{next, end}
 use Rattle.session.proofs.session.answers.Goals as goal
 
 -- the rest gets shorter
-shorter : (c : goal.In-ok-answer) → length c.in-Some.after.now < length c.loop-line.rest.now
+shorter : (c : goal.In_ok-answer) → length c.in-Some.after.now < length c.loop-line.rest.now
 shorter c = rest_shorter c.in-Some.line.now c.in-Some.after.now c.loop-line.rest.now c.in-Some.ensures
 
 pub loop-line-smaller : goal.loop-line-smaller
@@ -16,10 +16,10 @@ loop-line-preserved c = (
   omega (arith, shorter c, c.loop-line.invariant.0),
   next c.args.script.now c.loop-line.rest.now c.in-Some.line.now c.in-Some.after.now c.loop-line.number
       (hall_in c.loop-line.session) (hall_in c.answer.new.self) (string_bytes c.loop-line.out) (string_bytes c.answer.new.out)
-      c.in-Some.ensures c.in-ok-answer.ensures c.loop-line.invariant.1,
+      c.in-Some.ensures c.in_ok-answer.ensures c.loop-line.invariant.1,
 )
 
 pub returns : goal.returns
 returns c =
     end c.args.script.now c.loop-line.rest.now c.loop-line.number (hall_in c.loop-line.session) (string_bytes c.loop-line.out)
-    c.in-default.ensures c.loop-line.invariant.1
+    c.in_default.ensures c.loop-line.invariant.1

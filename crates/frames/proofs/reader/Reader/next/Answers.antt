@@ -5,8 +5,8 @@ use Rattle.frames.specs.Stream.{First, Damage, told_of}
 use Rattle.frames.proofs.Streams.{gives, repeats, first_size}
 use Rattle.frames.proofs.reader.Reader.next.Goals as goal
 
-pub returns-then-is-empty : goal.returns-then-is-empty
-returns-then-is-empty g c =
+pub returns-then-is_empty : goal.returns-then-is_empty
+returns-then-is_empty g c =
     let none : length c.rest-rest.result.now ≡ 0 = search rules in
     let step : Steps g.L.Length.meaning c.args.self.now None c.args.self.now = (sym c.rest-rest.ensures ∙ nil_from_length _ none, refl) in
     record { step = step; stream = gives g.L.Length.lawful c.args.self.now None c.args.self.now step; again = repeats g.L.Length.lawful c.args.self.now None c.args.self.now step }
@@ -26,7 +26,7 @@ returns-in-Err g c =
     let step : Steps g.L.Length.meaning c.args.self.now (Some (Err (record { place = c.args.self.now.place; fault = c.in-Err.fault }))) c.args.self.now = record { place_is = refl; more = more; why = why; stays = refl } in
     record { step = step; stream = gives g.L.Length.lawful c.args.self.now (Some (Err (record { place = c.args.self.now.place; fault = c.in-Err.fault }))) c.args.self.now step; again = repeats g.L.Length.lawful c.args.self.now (Some (Err (record { place = c.args.self.now.place; fault = c.in-Err.fault }))) c.args.self.now step }
 
-pub invariant-of-self : goal.invariant-of-self
-invariant-of-self g c =
+pub invariant_of-self : goal.invariant_of-self
+invariant_of-self g c =
     let whole : length c.rest-rest.result.now ≡ length c.args.self.now.input.now - c.args.self.now.place = ap length c.rest-rest.ensures ∙ length-drop _ _ in
     (omega (arith, c.in-Ok.ensures.within, c.args.self.now.within), tt)

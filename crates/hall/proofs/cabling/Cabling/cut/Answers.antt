@@ -17,8 +17,8 @@ bounds-ends-end c = let self = c.args.self.now in (in_table self.wired self.few 
 pub bounds-ends-end-2 : goal.bounds-ends-end-2
 bounds-ends-end-2 c = let self = c.args.self.now in (in_table self.wired self.few c.args.a c.args.p c.args.end c.requires.stands).far_port
 
-pub invariant-of-self : goal.invariant-of-self
-invariant-of-self c =
+pub invariant_of-self : goal.invariant_of-self
+invariant_of-self c =
     let self = c.args.self.now in
     let e = c.args.end in
     let i = in_table self.wired self.few c.args.a c.args.p e c.requires.stands in

@@ -4,21 +4,21 @@ use Rattle.hall.proofs.CableLaw.{cabled}
 use Rattle.hall.proofs.Rewiring.{put, put_rows, adds, adds_cabled}
 use Rattle.hall.proofs.cabling.Cabling.join.Goals as goal
 
-pub invariant-of-self : goal.invariant-of-self
-invariant-of-self c =
+pub invariant_of-self : goal.invariant_of-self
+invariant_of-self c =
     let self = c.args.self.now in
     let ha : c.args.a < 64 = omega (arith, self.few) in
     let hb : c.args.b < 64 = omega (arith, self.few) in
     let there = Some (end_at c.args.b c.args.q c.args.weight) in
     let here = Some (end_at c.args.a c.args.p c.args.weight) in
     let rows = put_rows self.ends self.rows c.args.a c.args.p there ha in
-    let ad = adds self.ends self.rows c.args.a c.args.p c.args.b c.args.q c.args.weight ha hb c.requires.p-inside c.requires.q-inside c.requires.apart in (
+    let ad = adds self.ends self.rows c.args.a c.args.p c.args.b c.args.q c.args.weight ha hb c.requires.p_inside c.requires.q_inside c.requires.apart in (
       self.some,
       (
         self.few,
         (
           put_rows (put self.ends c.args.a c.args.p there) rows c.args.b c.args.q here hb,
-          (∣ adds_cabled (cabled self.wired) c.requires.a-inside c.requires.b-inside c.requires.p-inside c.requires.q-inside c.requires.apart c.requires.p-free c.requires.q-free ad ∣₁, tt),
+          (∣ adds_cabled (cabled self.wired) c.requires.a_inside c.requires.b_inside c.requires.p_inside c.requires.q_inside c.requires.apart c.requires.p_free c.requires.q_free ad ∣₁, tt),
         ),
       ),
     )
@@ -28,4 +28,4 @@ returns c =
     let self = c.args.self.now in
     let ha : c.args.a < 64 = omega (arith, self.few) in
     let hb : c.args.b < 64 = omega (arith, self.few) in
-    record { boards = refl; cables = adds self.ends self.rows c.args.a c.args.p c.args.b c.args.q c.args.weight ha hb c.requires.p-inside c.requires.q-inside c.requires.apart }
+    record { boards = refl; cables = adds self.ends self.rows c.args.a c.args.p c.args.b c.args.q c.args.weight ha hb c.requires.p_inside c.requires.q_inside c.requires.apart }

@@ -25,7 +25,7 @@ loop-board-preserved g c =
       inv.1,
       let right = c.requires in
           let mid = skipped k h s from m old.ledger.records old.tallies inv.2 found.onward found.least in
-          let idle = subst (λ (p : Option Plan). PlanIn k h m p) c.in-default.is (right m found.there) in
+          let idle = subst (λ (p : Option Plan). PlanIn k h m p) c.in_default.is (right m found.there) in
           subst (λ x. Midway k h s x old.ledger.records old.tallies) (sym step.2) (idles k h s m old.ledger.records old.tallies (records_in k h m) mid found.there (idle, refl)),
     )
 
@@ -36,14 +36,14 @@ loop-board-preserved-in-Some-planned g c =
     let s = c.args.set in
     let m = c.in-Some.board in
     let plan = c.in-Some-planned.plan in
-    let next = c.follow-on-record.result in
+    let next = c.follow_on-record.result in
     let old = c.loop-board.self in
     let after = c.note.new.self in
     let from = c.loop-board.board-iterator.from in
     let inv = c.loop-board.invariant in
     let step = c.in-Some.ensures.steps in
     let found = subst (λ x. LeastFrom x from m) inv.0 step.0 in
-    let is = subst (λ (x : Cabling). next ≡ followed k (records_in k h m) (around (far_of x.ends) (records_in k h) m) (Some plan)) inv.1 c.follow-on-record.ensures in (
+    let is = subst (λ (x : Cabling). next ≡ followed k (records_in k h m) (around (far_of x.ends) (records_in k h) m) (Some plan)) inv.1 c.follow_on-record.ensures in (
       step.1 ∙ inv.0,
       c.note.ensures.cabling ∙ inv.1,
       let right = c.requires in

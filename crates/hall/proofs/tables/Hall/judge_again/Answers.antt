@@ -13,7 +13,7 @@ loop-board-init g c =
     let same = c.into-iter-board-iterator.ensures.into-iter-gives in
     let made = c.of-board-items.ensures in
     let start = ap (λ (m : Members). m.from) same ∙ made.start in
-    (ap (λ (m : Members). m.set) same ∙ made.whole, subst (λ m. Judging k h c.args.set c.args.doubtful c.args.plans.now m e c.args.plans.now) (sym start) (nobody_judged k h c.args.set c.args.doubtful c.args.plans.now e c.without-enabled.type-inv c.without-enabled.ensures))
+    (ap (λ (m : Members). m.set) same ∙ made.whole, subst (λ m. Judging k h c.args.set c.args.doubtful c.args.plans.now m e c.args.plans.now) (sym start) (nobody_judged k h c.args.set c.args.doubtful c.args.plans.now e c.without-enabled.type_inv c.without-enabled.ensures))
 
 pub loop-board-preserved : goal.loop-board-preserved
 loop-board-preserved g c =
@@ -25,7 +25,7 @@ loop-board-preserved g c =
     let m = c.in-Some.board in
     let e = c.loop-board.enabled in
     let old = c.loop-board.plans in
-    let plan = c.plan-at-plan.result in
+    let plan = c.plan_at-plan.result in
     let new : Plans = record { of = set old.of m plan } in
     let from = c.loop-board.board-iterator.from in
     let inv = c.loop-board.invariant in
@@ -33,11 +33,11 @@ loop-board-preserved g c =
     let found = subst (λ x. LeastFrom x from m) inv.0 step.0 in
     let whole : length old.of ≡ 64 = search rules in
     let inside : m < length old.of = omega (arith, found.below) in
-    let next = judged k h s d first from m e e old new plan inv.1 found c.plan-at-plan.ensures (put_plan old m plan inside) (other_plan old m plan) inv.1.small (λ b ne. refl) (not_yet inv.1 found ∙ c.if-is-some.ensures) in
+    let next = judged k h s d first from m e e old new plan inv.1 found c.plan_at-plan.ensures (put_plan old m plan inside) (other_plan old m plan) inv.1.small (λ b ne. refl) (not_yet inv.1 found ∙ c.if-is_some.ensures) in
     (step.1 ∙ inv.0, subst (λ x. Judging k h s d first x e new) (sym step.2) next)
 
-pub loop-board-preserved-then-is-some : goal.loop-board-preserved-then-is-some
-loop-board-preserved-then-is-some g c =
+pub loop-board-preserved-then-is_some : goal.loop-board-preserved-then-is_some
+loop-board-preserved-then-is_some g c =
     let k = g.L.Length.meaning in
     let h = c.args.self.now in
     let s = c.args.set in
@@ -47,7 +47,7 @@ loop-board-preserved-then-is-some g c =
     let e = c.loop-board.enabled in
     let r = c.with-enabled.result in
     let old = c.loop-board.plans in
-    let plan = c.plan-at-plan.result in
+    let plan = c.plan_at-plan.result in
     let new : Plans = record { of = set old.of m plan } in
     let from = c.loop-board.board-iterator.from in
     let inv = c.loop-board.invariant in
@@ -55,7 +55,7 @@ loop-board-preserved-then-is-some g c =
     let found = subst (λ x. LeastFrom x from m) inv.0 step.0 in
     let whole : length old.of ≡ 64 = search rules in
     let inside : m < length old.of = omega (arith, found.below) in
-    let next = judged k h s d first from m e r old new plan inv.1 found c.plan-at-plan.ensures (put_plan old m plan inside) (other_plan old m plan) c.with-enabled.type-inv (with_others e r m c.with-enabled.ensures) (with_itself e r m found.below c.with-enabled.ensures ∙ c.if-is-some.ensures) in
+    let next = judged k h s d first from m e r old new plan inv.1 found c.plan_at-plan.ensures (put_plan old m plan inside) (other_plan old m plan) c.with-enabled.type_inv (with_others e r m c.with-enabled.ensures) (with_itself e r m found.below c.with-enabled.ensures ∙ c.if-is_some.ensures) in
     (step.1 ∙ inv.0, subst (λ x. Judging k h s d first x r new) (sym step.2) next)
 
 pub returns : goal.returns

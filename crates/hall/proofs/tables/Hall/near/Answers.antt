@@ -10,7 +10,7 @@ loop-board-preserved g c =
     let step = c.in-Some.ensures.steps in
     let from = c.loop-board.board-iterator.from in
     let next = subst (λ s. LeastFrom s from c.in-Some.board) inv.0 step.0 in
-    (step.1 ∙ inv.0, subst (λ m. NearBelow h c.args.moved m c.with-neighbours-near.result) (sym step.2) (near_more h c.args.moved from c.in-Some.board c.loop-board.near c.with-neighbours-near.result inv.1 next c.with-neighbours-near.ensures))
+    (step.1 ∙ inv.0, subst (λ m. NearBelow h c.args.moved m c.with_neighbours-near.result) (sym step.2) (near_more h c.args.moved from c.in-Some.board c.loop-board.near c.with_neighbours-near.result inv.1 next c.with_neighbours-near.ensures))
 
 pub returns : goal.returns
 returns g c =

@@ -5,4 +5,4 @@ use Rattle.hall.proofs.tables.Hall.new.Goals as goal
 pub returns : goal.returns
 returns g c =
     let made = c.in-Some.ensures in
-    (made.0, made.1, record { boards = made.2; cables = made.3; records = λ b pos lt. c.isolated-ledger.ensures b pos (omega arith); counts = none_counted c.no-moves-tallies.result c.no-moves-tallies.ensures })
+    (made.0, made.1, record { boards = made.2; cables = made.3; records = λ b pos lt. c.isolated-ledger.ensures b pos (omega arith); counts = none_counted c.no_moves-tallies.result c.no_moves-tallies.ensures })

@@ -8,11 +8,11 @@ returns g c =
     let k = g.L.Length.meaning in
     let rs = c.args.self.now.ledger.records in
     let b = c.args.board in
-    let own = c.in-ok-record.record in
+    let own = c.in_ok-record.record in
     let whole : length rs ≡ 64 = search rules in
-    let read = c.in-ok-record.ensures in (
+    let read = c.in_ok-record.ensures in (
       search rules,
-      anew _ _ refl c.no-moves-self.ensures,
+      anew _ _ refl c.no_moves-self.ensures,
       λ b p. refl,
       record {
         planted = subst (Numbered k c.args.status c.args.par c.args.code) (sym (put_record k rs b own c.if-board-eq0.false (omega (arith, c.args.self.now.cabling.few)))) read.1;

@@ -10,7 +10,7 @@ use Rattle.hall.proofs.tables.Hall.settle.Given as given
 use Rattle.hall.proofs.tables.Hall.settle.Goals as goal
 
 -- the choice holds only enabled boards
-chooses : (g : given.Over) (c : goal.After-judge-again-enabled g) → Chooses c.ask-chosen.result c.loop-enabled.enabled
+chooses : (g : given.Over) (c : goal.After-judge_again-enabled g) → Chooses c.ask-chosen.result c.loop-enabled.enabled
 chooses g c = subst (λ x. Chooses x c.loop-enabled.enabled) (sym c.ask-chosen.ensures.answer) (g.met.P.Picker.chooses c.loop-enabled.picker c.loop-enabled.enabled c.loop-enabled.invariant.0.small)
 
 pub advance-requires : goal.advance-requires
@@ -19,7 +19,7 @@ advance-requires g c =
     (search rules, λ b in-choice. c.loop-enabled.invariant.1 b (chosen.within b in-choice))
 
 -- and these have moved
-turned : (g : given.Over) (c : goal.After-judge-again-enabled g) → Turned g.L.Length.meaning c.loop-enabled.self c.ask-chosen.result c.advance.new.self
+turned : (g : given.Over) (c : goal.After-judge_again-enabled g) → Turned g.L.Length.meaning c.loop-enabled.self c.ask-chosen.result c.advance.new.self
 turned g c = c.advance.ensures
 
 pub loop-enabled-smaller : goal.loop-enabled-smaller
@@ -33,7 +33,7 @@ loop-enabled-preserved g c =
     let old = c.loop-enabled.self in
     let new = c.advance.new.self in
     let s = c.loop-enabled.enabled in
-    let again = c.judge-again-enabled in
+    let again = c.judge_again-enabled in
     let made = subst (λ x. Turned k old x new) c.ask-chosen.ensures.answer (turned g c) in
     let anew = enabled_anew k old new c.ask-chosen.result c.near-near.result (turned g c) c.near-near.ensures s again.result c.loop-enabled.plans again.new.plans inv.0 inv.1 again.ensures in
     (anew.0, anew.1, λ q end d. inv.2 q end (asked s inv.0 c.loop-enabled-test.true made (subst (λ (x : g.row.P.Denot). Settles k picks x new q end) c.ask-chosen.ensures.next d)))

@@ -9,5 +9,5 @@ returns-in-Some g c = let l = c.in-Some.ensures in (beyond c.in-Some.field-0 l.t
 pub returns-then-set-eq0 : goal.returns-then-set-eq0
 returns-then-set-eq0 g c = (nobody c.if-set-eq0.true, refl)
 
-pub returns-then-not-all-enabled : goal.returns-then-not-all-enabled
-returns-then-not-all-enabled g c = (disabled (all_there c.args.self.now c.args.set c.boards.result c.boards.ensures c.in-default.ensures) c.if-not-all-enabled.ensures, refl)
+pub returns-then-not-all_enabled : goal.returns-then-not-all_enabled
+returns-then-not-all_enabled g c = (disabled (all_there c.args.self.now c.args.set c.boards.result c.boards.ensures c.in_default.ensures) c.if-not-all_enabled.ensures, refl)

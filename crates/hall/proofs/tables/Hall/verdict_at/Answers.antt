@@ -3,4 +3,4 @@ use Rattle.hall.proofs.Verdicts.{verdict_of_board}
 use Rattle.hall.proofs.tables.Hall.verdict_at.Goals as goal
 
 pub returns : goal.returns
-returns g c = verdict_of_board g.L.Length.meaning c.args.self.now c.args.board (omega (arith, c.boards.ensures)) c.if-board-eq0.false c.record-at.result c.record-at.ensures c.verdict.result c.verdict.ensures
+returns g c = verdict_of_board g.L.Length.meaning c.args.self.now c.args.board (omega (arith, c.boards.ensures)) c.if-board-eq0.false c.record_at.result c.record_at.ensures c.verdict.result c.verdict.ensures

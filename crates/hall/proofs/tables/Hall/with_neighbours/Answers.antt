@@ -17,4 +17,4 @@ loop-port-preserved g c =
       | in-Some w ↦ far_board h b m r t c.match-far.far w.in-Some.end w.in-Some.ensures (w.far-is ∙ w.from-far.ensures) c.with-near.ensures
       | in-None w ↦ λ e at. let z : ◌≡◌ {A = ℕ} 0 1 = let x = w.in-None.ensures ∙ at in cc in absurd (omega arith)
     ] in
-    port_more h c.args.set b m r t c.loop-port.invariant c.with-near.type-inv (λ x in-r. c.with-near.ensures x ∙ kept_in (has r x) _ in-r) joined
+    port_more h c.args.set b m r t c.loop-port.invariant c.with-near.type_inv (λ x in-r. c.with-near.ensures x ∙ kept_in (has r x) _ in-r) joined
