@@ -1,10 +1,23 @@
+ghost use Rattle.std.specs.Prelude.{◌≡◌, ⊤};
+
 use crate::cabling::Cabling;
 use rules::Record;
+use std::alloc::AllocError;
 
 // The records of the boards. What stands at board 0 is not read: the root's record never changes.
-#[derive(Clone, Copy)]
+#[derive(Copy)]
 pub(crate) struct Ledger<L> {
     pub(crate) records: [Record<L>; 64],
+}
+
+impl<L: Copy> Clone for Ledger<L> {
+    ghost is_clone = { λ x y. y ≡ x };
+
+    ghost is_infallible = { λ _. ⊤ };
+
+    fn clone(&self) -> Result<Ledger<L>, AllocError> {
+        Ok(*self)
+    }
 }
 
 // How often a board has moved by each rule, each count stopping at 2^64 - 1.

@@ -1,5 +1,5 @@
 -- What the operations on bits do to membership.
-use Rattle.std.proofs.Common.{◌≡◌, ℕ, zero, suc, ◌+◌, ◌-◌, ◌*◌, ◌/◌, ◌%◌, ◌^◌, ◌<◌, ◌≤◌, min, max, Bool, true, false, not, ◌&&◌, ◌||◌, eqb, ltb, sym, refl, ap, ◌∙◌, subst, ap₂, ⊎_elim, one-mul, zero-add, div-one, add-one, one-add, arith, pow_mono, lt-ltb, eq-eqb, ne_eqb, eqb-true}
+use Rattle.std.proofs.Common.{⊎_elim, ◌≡◌, ℕ, zero, suc, ◌+◌, ◌-◌, ◌*◌, ◌/◌, ◌%◌, ◌^◌, ◌<◌, ◌≤◌, min, max, Bool, true, false, not, ◌&&◌, ◌||◌, eqb, ltb, sym, refl, ap, ◌∙◌, subst, ap₂, one-mul, zero-add, div-one, add-one, one-add, arith, pow_mono, lt-ltb, eq-eqb, ne_eqb, eqb-true}
 use mathlib.Core.Logic.{by_cases}
 use native.Mathlib.Decide.{ℕ_discrete, dec_lt}
 use native.Mathlib.Nat.{pow-succ', pow-zero, mod-one}
@@ -9,7 +9,6 @@ use lib.Pow.{pow-lt}
 use borrow.Author.Tests.{eqb-false, both_ways}
 use Rattle.std.proofs.lemmas.Bool.{cases_eq}
 use Rattle.std.proofs.lemmas.Nat.{and_shr, shr_below, pow_pos, pow-add, shl-shr, shr-shr, div_below, mod_below, mod-pow-add}
-use Rattle.std.proofs.str.Laws.{order}
 use Rattle.sets.specs.Counts.{Count}
 use Rattle.sets.specs.Counts.Count.{nobody, one_such, not_such}
 use Rattle.sets.specs.Sets.{has, LeastFrom}
@@ -37,10 +36,10 @@ own_bit b = let e : 2 ^ b / 2 ^ b ≡ 1 = ap (λ x. x / 2 ^ b) (sym (one-mul (2 
 
 pub other_bit : (b c : ℕ) → (c ≡ b → ⊥) → has (2 ^ b) c ≡ false
 other_bit b c ne =
-    ⊎_elim
+    by_cases
+    (dec_lt c b)
     (λ (lt : c < b). let e : 2 ^ b / 2 ^ c % 2 ≡ 0 = low b c (b - c - 1) (omega arith) in ap (λ q. eqb q 1) e)
-    (λ (ge : b ≤ c). let lt : b < c = omega arith in let e = under (2 ^ b) (2 ^ c) (pow-lt lt) in ap (λ q. eqb (q % 2) 1) e)
-    (order c b)
+    (λ (ge : c < b → ⊥). let lt : b < c = omega arith in let e = under (2 ^ b) (2 ^ c) (pow-lt lt) in ap (λ q. eqb (q % 2) 1) e)
 
 -- a digit of `or` is the greater of the two digits
 or_digit : (a b : ℕ) → bit_or a b % 2 ≡ max (a % 2) (b % 2)

@@ -5,7 +5,7 @@ use Rattle.commands.proofs.fields.number_field.Goals as goal
 
 pub returns-in_err-n : goal.returns-in_err-n
 returns-in_err-n c =
-    rw c.from-residual.ensures (record {
+    rw c.from_residual.ensures (record {
       takes = λ f fs h fits.
           let same = next_word f fs c.first.result.0.now c.first.result.1.now c.args.fields.now h c.first.ensures in
           c.in_err-n.ensures fits.0 (subst (λ w. Numeral w fits.0) (sym same.0) fits.1);

@@ -5,15 +5,15 @@ use Rattle.frames.specs.Stream.{Whole, First, head_length, head_kind, told_of}
 use Rattle.frames.proofs.Fronts.{front_damage, front_record, front_other}
 use Rattle.frames.proofs.Streams.{no_frame}
 use Rattle.frames.proofs.item.first_frame.Goals as goal
-use Rattle.frames.proofs.item.first_frame.Goals.{in-1+in_ok-item, in_default}
+use Rattle.frames.proofs.item.first_frame.Goals.{in-1+in_ok-item-in-1, in_default}
 
-pub returns-in_err-item : goal.returns-in_err-item
-returns-in_err-item g c =
-    let p = err_from_is_err_and c.from-residual.result c.from-residual.ensures.1 in
+pub returns-in_err-item-in-1 : goal.returns-in_err-item-in-1
+returns-in_err-item-in-1 g c =
+    let p = err_from_is_err_and c.from_residual.result c.from_residual.ensures.1 in
     let w : Whole c.args.bytes.now = record { head = omega arith; least = omega arith; within = omega arith } in
     let kind : head_kind c.args.bytes.now ≡ 1 = omega arith in
     let size : c.from-size.result - 0 ≡ head_length c.args.bytes.now = omega arith in
-    let body = subst (λ n. BodyDamage g.L.Length.meaning (take n c.args.bytes.now) c.in_err-item.field-0.0) size c.in_err-item.ensures in
+    let body = subst (λ n. BodyDamage g.L.Length.meaning (take n c.args.bytes.now) c.in_err-item-in-1.field-0.0) size c.in_err-item-in-1.ensures in
     rw (p.1, p.2) (no_frame g.L.Length.lawful _ _ (front_damage g.L.Length.meaning c.args.bytes.now _ w kind body))
 
 pub returns : goal.returns
@@ -25,9 +25,9 @@ returns g c =
     let small : (i : ℕ) → get_or bytes i 0 < 256 = λ i. (c.type_inv.bytes i).fits in
     let whole : First g.L.Length.meaning bytes (head_length bytes) (told_of c.match-kind.item) =
     elim c.match-kind.branch [
-      | in-1+in_ok-item v ↦
+      | in-1+in_ok-item-in-1 v ↦
           (let kind : head_kind bytes ≡ 1 = omega (arith, v.in-1.is) in
-          let body = subst (λ n. TellsBody g.L.Length.meaning (take n bytes) (told_of v.in_ok-item.item)) part v.in_ok-item.ensures in
+          let body = subst (λ n. TellsBody g.L.Length.meaning (take n bytes) (told_of v.in_ok-item-in-1.item)) part v.in_ok-item-in-1.ensures in
           subst (λ i. First g.L.Length.meaning bytes (head_length bytes) (told_of i)) (sym v.item-is) (front_record g.L.Length.meaning bytes _ small w kind body))
       | in_default v ↦
           (let other : c.from_le_bytes-kind.result ≢ 1 = search rules in

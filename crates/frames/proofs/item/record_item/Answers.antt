@@ -6,7 +6,7 @@ use Rattle.frames.proofs.item.record_item.Goals as goal
 
 pub returns-in_err-sent : goal.returns-in_err-sent
 returns-in_err-sent g c =
-    let p = err_from_is_err_and c.from-residual.result c.from-residual.ensures.1 in
+    let p = err_from_is_err_and c.from_residual.result c.from_residual.ensures.1 in
     let long : length c.args.frame.now ≡ 16 = omega arith in
     let same : c.in-Some.fields.now ≡ c.args.frame.now = c.in-Some.ensures.cases.same ∙ take_all 16 _ (omega arith) in
     rw (p.1, p.2) (body_damage g.L.Length.meaning _ _ _ long same c.in_err-sent.ensures.why)

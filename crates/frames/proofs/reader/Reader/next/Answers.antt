@@ -29,4 +29,4 @@ returns-in-Err g c =
 pub invariant_of-self : goal.invariant_of-self
 invariant_of-self g c =
     let whole : length c.rest-rest.result.now ≡ length c.args.self.now.input.now - c.args.self.now.place = ap length c.rest-rest.ensures ∙ length-drop _ _ in
-    (omega (arith, c.in-Ok.ensures.within, c.args.self.now.within), tt)
+    record { within = omega (arith, c.in-Ok.ensures.within, c.args.self.now.within) }

@@ -25,7 +25,12 @@ invariant_of-self c =
     let first = put self.ends c.args.a c.args.p None in
     let rows = put_rows self.ends self.rows c.args.a c.args.p None i.board in
     let re = removes self.ends self.rows c.args.a c.args.p e i.board i.far_board i.port i.far_port i.apart in
-    (self.some, (self.few, (put_rows first rows e.board e.port None i.far_board, (∣ removes_cabled (cabled self.wired) c.requires.stands re ∣₁, tt))))
+    record {
+      some = self.some;
+      few = self.few;
+      rows = put_rows first rows e.board e.port None i.far_board;
+      wired = ∣ removes_cabled (cabled self.wired) c.requires.stands re ∣₁;
+    }
 
 pub returns : goal.returns
 returns c =

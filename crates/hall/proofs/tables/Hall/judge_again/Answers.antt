@@ -10,7 +10,7 @@ loop-board-init g c =
     let k = g.L.Length.meaning in
     let h = c.args.self.now in
     let e = c.without-enabled.result in
-    let same = c.into-iter-board-iterator.ensures.into-iter-gives in
+    let same = c.into_iter-board-iterator.ensures.into_iter_gives in
     let made = c.of-board-items.ensures in
     let start = ap (λ (m : Members). m.from) same ∙ made.start in
     (ap (λ (m : Members). m.set) same ∙ made.whole, subst (λ m. Judging k h c.args.set c.args.doubtful c.args.plans.now m e c.args.plans.now) (sym start) (nobody_judged k h c.args.set c.args.doubtful c.args.plans.now e c.without-enabled.type_inv c.without-enabled.ensures))

@@ -5,7 +5,7 @@ use Rattle.pickers.specs.Choices.{following, choose_one}
 use Rattle.pickers.specs.Seeking.{follows}
 use Rattle.pickers.proofs.ring.RingPicker.ask.Goals as goal
 
-small : (c : goal.After-self·1) → c.in-Some.board < 64
+small : (c : goal.After-self-1) → c.in-Some.board < 64
 small c = in_sixty_four c.args.boards c.in-Some.board c.ranges.boards.fits (follows c.args.boards c.args.self.now.last c.in-Some.board (sym c.in-Some.ensures))
 
 pub overflow_shl-result : goal.overflow_shl-result
