@@ -19,11 +19,13 @@ use Rattle.commands.specs.declared.misread.Misread.{Misread}
 use Rattle.hall.specs.declared.fault.Fault.{Fault}
 use Rattle.hall.specs.declared.tables.Hall.{Hall}
 use Rattle.session.specs.Answers.{Opens, Commands, Does, Follows, Replies, Shown, Printed, Answered}
-use Rattle.session.specs.Halls.{AnyHall, of_metres, of_grade, MakesAny, ObeysAny, ShownAny}
+use Rattle.session.specs.Halls.{MakesAny, ObeysAny, ShownAny}
 use Rattle.session.specs.Replies.{Becomes, TurnsNamed, SettlesNamed, Obeys}
 use Rattle.session.specs.Transcript.{Answers, nothing, answer, Transcript}
 use Rattle.session.specs.declared.fault.ScriptFault.{ScriptFault}
 use Rattle.session.specs.declared.fault.ScriptFault.TheVariants.{Hall as Refusing}
+use Rattle.session.specs.declared.halls.AnyHall.{AnyHall}
+use Rattle.session.specs.declared.halls.AnyHall.TheVariants.{Metres, Grade}
 use Rattle.session.specs.declared.obey.Reply.{Reply}
 use Rattle.session.specs.declared.obey.Reply.TheVariants.{Done, Moved, Counts, Boards}
 use Rattle.session.proofs.OneHall.{Alike, one_wires, one_cuts, one_planted, one_turns, one_settles, one_tally, one_shown, one_made, kept}
@@ -60,8 +62,8 @@ module _ {V : Type 0} {k : Kind V} (laws : Laws k) where
 
 -- halls of one kind with the same tables
 data AlikeAny : AnyHall → AnyHall → Type 0 where
-  metres_alike : {g h : Hall MetresLength} → Alike metres g h → AlikeAny (of_metres g) (of_metres h)
-  grade_alike : {g h : Hall GradeLength} → Alike grade g h → AlikeAny (of_grade g) (of_grade h)
+  metres_alike : {g h : Hall MetresLength} → Alike metres g h → AlikeAny (Metres g) (Metres h)
+  grade_alike : {g h : Hall GradeLength} → Alike grade g h → AlikeAny (Grade g) (Grade h)
 
 -- no hall, or halls with the same tables
 data AlikeHere : Option AnyHall → Option AnyHall → Type 0 where

@@ -6,10 +6,11 @@ use Rattle.commands.specs.declared.command.Command.TheVariants.{New, Wire, Cut, 
 use Rattle.commands.specs.declared.command.Kind.{Kind}
 use Rattle.commands.specs.declared.misread.Misread.{Misread}
 use Rattle.hall.specs.declared.fault.Fault.{Fault}
-use Rattle.session.specs.Halls.{AnyHall, MakesAny, ObeysAny, ShownAny}
+use Rattle.session.specs.Halls.{MakesAny, ObeysAny, ShownAny}
 use Rattle.session.specs.Texts.{text_line, counts_text, refusal_text}
 use Rattle.session.specs.declared.fault.ScriptFault.{ScriptFault}
 use Rattle.session.specs.declared.fault.ScriptFault.TheVariants.{NoHall, Misread as Misreading, Hall as Refusing}
+use Rattle.session.specs.declared.halls.AnyHall.{AnyHall}
 use Rattle.session.specs.declared.obey.Reply.{Reply}
 use Rattle.session.specs.declared.obey.Reply.TheVariants.{Done, Moved, Counts, Boards}
 

@@ -1,9 +1,9 @@
 -- The transcript of a script.
 use Rattle.std.specs.Prelude.{◌≡◌, ℕ, ◌+◌, ◌<◌, ◌≤◌, ◌⊎◌, List, [], ◌∷◌, ◌++◌, length, None, codes, Option}
 use Rattle.words.specs.Lines.{Lines}
-use Rattle.session.specs.Halls.{AnyHall}
 use Rattle.session.specs.Answers.{Answered}
 use Rattle.session.specs.Texts.{text_line}
+use Rattle.session.specs.declared.halls.AnyHall.{AnyHall}
 
 -- the answers to these lines, the first of which has this number and finds this hall, one after another
 pub data Answers : ℕ → Option AnyHall → List (List ℕ) → List ℕ → Type 0 where

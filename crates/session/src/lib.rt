@@ -2,6 +2,7 @@
 #![tactic(auto)]
 
 mod fault;
+mod halls;
 mod obey;
 mod session;
 mod text;

@@ -1,69 +1,46 @@
 ghost use Rattle.std.specs.Prelude.{◌≡◌, ℕ, ◌≤◌, List, length, IfOk, string_bytes, OnOk};
-ghost use Rattle.session.specs.Answers.{Opens, Replies, Shown, Printed, Answered};
-ghost use Rattle.session.specs.Halls.{hall_in};
+ghost use Rattle.session.specs.Answers.{Opens, Replies, Printed, Answered};
 ghost use Rattle.session.specs.Transcript.{Answering, Transcript};
 ghost use Rattle.session.specs.Texts.{Appends};
 
 use crate::fault::ScriptFault;
-use crate::obey::{Reply, obey};
-use crate::text::{put, put_counts, put_refusal, show};
+use crate::halls::AnyHall;
+use crate::obey::Reply;
+use crate::text::{put, put_counts, put_refusal};
 use commands::{Command, Kind, read_command};
-use hall::Hall;
-use lengths::{Grade, Metres};
 use std::alloc::{AllocError, Global};
 use words::next_line;
 
 // A longer script is refused as a whole.
 const LONGEST: usize = 65_536;
 
-// The hall that the lines so far have left, if there is one: of metres or else of grade.
+// The hall that the lines so far have left, if there is one.
 #[derive(Drop)]
 struct Session {
-    metres: Option<Hall<Metres>>,
-    grade: Option<Hall<Grade>>,
+    hall: Option<AnyHall>,
 }
 
 impl Session {
     // A new hall takes the place of the one before.
     fn open(&mut self, boards: u32, kind: Kind) -> Result<Reply, ScriptFault>
-        ensures { Opens kind boards (hall_in self.old) result (hall_in self.new) }
+        ensures { Opens kind boards self.old.hall result self.new.hall }
     {
-        match kind {
-            Kind::Metres => self.metres = Some(Hall::new(boards)?),
-            Kind::Grade => {
-                self.grade = Some(Hall::new(boards)?);
-                self.metres = None;
-            }
-        }
+        self.hall = Some(AnyHall::new(boards, kind)?);
         Ok(Reply::Done)
     }
 
     // The answer to a line.
     fn reply(&mut self, line: &[u8]) -> Result<Reply, ScriptFault>
-        ensures { Replies line.now (hall_in self.old) result (hall_in self.new) }
+        ensures { Replies line.now self.old.hall result self.new.hall }
     {
         let command = read_command(line)?;
         if let Command::New { boards, kind } = command {
             return self.open(boards, kind);
         }
-        if let Some(hall) = self.metres.as_mut() {
-            return obey(hall, command);
-        }
-        if let Some(hall) = self.grade.as_mut() {
-            return obey(hall, command);
-        }
-        Err(ScriptFault::NoHall)
-    }
-
-    // Writes a line for each board of the hall.
-    fn show(&self, out: &mut String) -> Result<(), AllocError>
-        ensures { OnOk result (Appends (Shown (hall_in self.now)) (string_bytes out.old) (string_bytes out.new)) }
-    {
-        match (&self.metres, &self.grade) {
-            (Some(hall), _) => show(out, hall),
-            (None, Some(hall)) => show(out, hall),
-            (None, None) => Ok(()),
-        }
+        let Some(hall) = self.hall.as_mut() else {
+            return Err(ScriptFault::NoHall);
+        };
+        hall.obey(command)
     }
 
     // Writes the answer to the line of this number.
@@ -73,20 +50,23 @@ impl Session {
         number: usize,
         answer: Result<Reply, ScriptFault>,
     ) -> Result<(), AllocError>
-        ensures { OnOk result (Appends (Printed (hall_in self.now) number answer) (string_bytes out.old) (string_bytes out.new)) }
+        ensures { OnOk result (Appends (Printed self.now.hall number answer) (string_bytes out.old) (string_bytes out.new)) }
     {
         match answer {
             Ok(Reply::Done) => put(out, "ok\n"),
             Ok(Reply::Moved(count)) => put(out, format_args!("moved {count}\n")),
             Ok(Reply::Counts(tally)) => put_counts(out, tally),
-            Ok(Reply::Boards) => self.show(out),
+            Ok(Reply::Boards) => match &self.hall {
+                Some(hall) => hall.show(out),
+                None => Ok(()),
+            },
             Err(fault) => put_refusal(out, number, fault),
         }
     }
 
     // Answers the line of this number.
     fn answer(&mut self, out: &mut String, number: usize, line: &[u8]) -> Result<(), AllocError>
-        ensures { OnOk result (Appends (Answered number line.now (hall_in self.old) (hall_in self.new)) (string_bytes out.old) (string_bytes out.new)) }
+        ensures { OnOk result (Appends (Answered number line.now self.old.hall self.new.hall) (string_bytes out.old) (string_bytes out.new)) }
     {
         let reply = self.reply(line);
         self.print(out, number, reply)
@@ -99,10 +79,7 @@ fn answers(heap: Global, script: &[u8]) -> Result<String, AllocError>
     ensures { IfOk result (λ s. Answering script.now (string_bytes s)) }
 {
     let mut out = String::new(heap);
-    let mut session = Session {
-        metres: None,
-        grade: None,
-    };
+    let mut session = Session { hall: None };
     let mut rest = script;
     let mut number = 1;
     while let Some((line, after)) = next_line(rest) {

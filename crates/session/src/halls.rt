@@ -1,0 +1,50 @@
+ghost use Rattle.std.specs.Prelude.{string_bytes, OnOk};
+ghost use Rattle.session.specs.Halls.{MakesAny, ObeysAny, ShownAny};
+ghost use Rattle.session.specs.Texts.{Appends};
+
+use crate::fault::ScriptFault;
+use crate::obey::{Reply, obey};
+use crate::text::show;
+use commands::{Command, Kind};
+use hall::{Fault, Hall};
+use lengths::{Grade, Metres};
+use std::alloc::AllocError;
+
+// A hall, by its kind of length.
+#[derive(Drop)]
+pub enum AnyHall {
+    Metres(Hall<Metres>),
+    Grade(Hall<Grade>),
+}
+
+impl AnyHall {
+    // A hall of this kind, without cables.
+    pub(crate) fn new(boards: u32, kind: Kind) -> Result<AnyHall, Fault>
+        ensures { MakesAny kind boards result }
+    {
+        match kind {
+            Kind::Metres => Ok(AnyHall::Metres(Hall::new(boards)?)),
+            Kind::Grade => Ok(AnyHall::Grade(Hall::new(boards)?)),
+        }
+    }
+
+    // A hall of whichever kind obeys a command.
+    pub(crate) fn obey(&mut self, command: Command) -> Result<Reply, ScriptFault>
+        ensures { ObeysAny self.old command result self.new }
+    {
+        match self {
+            AnyHall::Metres(hall) => obey(hall, command),
+            AnyHall::Grade(hall) => obey(hall, command),
+        }
+    }
+
+    // Writes a line for each board of a hall of whichever kind.
+    pub(crate) fn show(&self, out: &mut String) -> Result<(), AllocError>
+        ensures { OnOk result (Appends (ShownAny self.now) (string_bytes out.old) (string_bytes out.new)) }
+    {
+        match self {
+            AnyHall::Metres(hall) => show(out, hall),
+            AnyHall::Grade(hall) => show(out, hall),
+        }
+    }
+}
