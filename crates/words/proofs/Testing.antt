@@ -1,6 +1,6 @@
 -- What the tests of `is_word` tell.
 use Rattle.std.proofs.Common.{◌≡◌, ℕ, ◌<◌, ◌≤◌, Bool, false, not, eqb, List, length, get_or, take, Decides, sym, ◌∙◌, subst, arith}
-use Rattle.std.specs.List.{AllByRecursion as All}
+use Rattle.std.specs.List.{AllByRecursion}
 use Rattle.std.proofs.ByRecursion.{All-get_or}
 use Rattle.std.proofs.lemmas.List.{take_all}
 use Rattle.std.proofs.lemmas.Bool.{false≢true, not-true, not_from_false, eqb-false, ne_eqb}
@@ -14,8 +14,8 @@ no_word bytes i inside out = (
 )
 
 -- all bytes passed
-pub word_if_some : (bytes : List ℕ) (i : ℕ) (empty : Bool) → length bytes ≤ i → All (λ b. (33 ≤ b) × (b ≤ 126)) (take i bytes) → empty ≡ eqb (length bytes) 0 → Decides (not empty) (Word bytes)
+pub word_if_some : (bytes : List ℕ) (i : ℕ) (empty : Bool) → length bytes ≤ i → AllByRecursion (λ b. (33 ≤ b) × (b ≤ 126)) (take i bytes) → empty ≡ eqb (length bytes) 0 → Decides (not empty) (Word bytes)
 word_if_some bytes i empty all h e = (
-  λ some. let ne = eqb-false (length bytes) 0 (sym e ∙ not-true empty some) in (omega arith, subst (All (λ b. (33 ≤ b) × (b ≤ 126))) (take_all i bytes all) h),
+  λ some. let ne = eqb-false (length bytes) 0 (sym e ∙ not-true empty some) in (omega arith, subst (AllByRecursion (λ b. (33 ≤ b) × (b ≤ 126))) (take_all i bytes all) h),
   λ w. not_from_false empty (e ∙ ne_eqb (length bytes) 0 (λ z. omega (arith, w.0))),
 )

@@ -1,6 +1,6 @@
 -- Decimal numerals.
 use Rattle.std.specs.Prelude.{◌≡◌, ℕ, ◌+◌, ◌-◌, ◌*◌, ◌^◌, ◌<◌, ◌≤◌, List, length, fold}
-use Rattle.std.specs.List.{AllByRecursion as All}
+use Rattle.std.specs.List.{AllByRecursion}
 
 -- a decimal digit
 abbrev pub Digit : ℕ → Type 0
@@ -14,6 +14,6 @@ value bytes = fold (λ n b. n * 10 + (b - 48)) 0 bytes
 pub record Numeral (bytes : List ℕ) (n : ℕ) : Type 0 where
   pub some : 0 < length bytes
   pub few : length bytes ≤ 10
-  pub digits : All Digit bytes
+  pub digits : AllByRecursion Digit bytes
   pub writes : value bytes ≡ n
   pub small : n < 2 ^ 32
