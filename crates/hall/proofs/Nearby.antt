@@ -60,14 +60,14 @@ near_more h s from m r t i l x = record {
   neighbours = one_further (Around h t) s from (λ b lt in-s p e at. x.these e.board (i.neighbours b lt in-s p e at)) m l (λ p e at. x.far p e ((cabled h.cabling.wired).near m p e at).1 at);
 }
 
-pub near_all : {V : Type 0} (h : Hall V) (s m r : ℕ) → NearBelow h s m r → ((b : ℕ) → m ≤ b → has s b ≡ false) → NearAll h s r
-near_all h s m r i none = record {
+pub near_all : {V : Type 0} (h : Hall V) (s m r n : ℕ) → NearBelow h s m r → ((b : ℕ) → m ≤ b → has s b ≡ false) → NearAll h s n r
+near_all h s m r n i none = record {
   small = i.small;
   these = i.these;
-  neighbours = λ b p e in-s at. all_passed (Around h r) s m i.neighbours none b in-s p e at;
+  neighbours = λ b p e lt in-s at. all_passed (Around h r) s m i.neighbours none b in-s p e at;
 }
 
-module _ {V : Type 0} (k : Kind V) (old new : Hall V) (moved near : ℕ) (turned : Turned k old moved new) (reach : NearAll new moved near) where
+module _ {V : Type 0} (k : Kind V) (old new : Hall V) (moved near : ℕ) (turned : Turned k old moved new) (reach : NearAll new moved (boards_in new) near) where
   -- a board that did not move has its old record
   same_record : (b : ℕ) → has moved b ≡ false → records_in k new b ≡ records_in k old b
   same_record b out = go (turned.by b) (subst (λ t. MovesBy k old t b (turned.by b)) out (turned.movers b)) (turned.moves b)
@@ -88,7 +88,7 @@ module _ {V : Type 0} (k : Kind V) (old new : Hall V) (moved near : ℕ) (turned
   far_unmoved b p e out at = go (has moved e.board) refl
     where
       go : (t : Bool) → has moved e.board ≡ t → t ≡ false
-      go true in_moved = let law = cabled new.cabling.wired in absurd (both_ways (has near b) out (reach.neighbours e.board e.port (end_at b p e.weight) in_moved (law.back b p e at)))
+      go true in_moved = let law = cabled new.cabling.wired in absurd (both_ways (has near b) out (reach.neighbours e.board e.port (end_at b p e.weight) (law.near e.board e.port (end_at b p e.weight) (law.back b p e at)).0 in_moved (law.back b p e at)))
       go false x = refl
 
   same_view : (b : ℕ) → has near b ≡ false → (p : ℕ) → around (far_in new) (records_in k new) b p ≡ around (far_in old) (records_in k old) b p
@@ -117,14 +117,18 @@ module _ {V : Type 0} (k : Kind V) (old new : Hall V) (moved near : ℕ) (turned
     subst (λ (P : Type 0). P) (sym (λ i. TakesAt k (λ q. same_view b out q i) p.rule p.port)) x.1,
   )
 
-  -- the enabled boards are those that were, and of those near the ones that are now; and each has its plan
-  pub enabled_anew : (s r : ℕ) (before after : Plans) → EnabledSet k old s → AllPlanned k old before s → JudgedAgain k new s near before r after → EnabledSet k new r × AllPlanned k new after r
-  enabled_anew s r before after e plans j = (all_told k new r j.small (λ b lt. told b (has near b) refl (j.each b)), λ b in-r. planned b (has near b) refl in-r (j.each b))
+  -- the enabled boards are those that were, and of those near the ones that are now
+  pub enabled_anew : (s r : ℕ) (before after : Plans) → EnabledSet k old s → JudgedAgain k new s near before r after → EnabledSet k new r
+  enabled_anew s r before after e j = all_told k new r j.small (λ b lt. told b (has near b) refl (j.each b))
     where
       told : (b : ℕ) (t : Bool) → has near b ≡ t → JudgedBoard k new t (has s b) b (plan_of before b) (has r b) (plan_of after b) → TellsEnabled k new b (has r b)
       told b true x y = plan_tells k new b (plan_of after b) (has r b) y.1 y.0
       told b false x y = tells_before s e b x (has r b) y.0
 
-      planned : (b : ℕ) (t : Bool) → has near b ≡ t → has r b ≡ true → JudgedBoard k new t (has s b) b (plan_of before b) (has r b) (plan_of after b) → PlanIn k new b (plan_of after b)
-      planned b true x in-r y = y.0
-      planned b false x in-r y = subst (PlanIn k new b) (sym y.1) (same_plan b x (plan_of before b) (plans b (sym y.0 ∙ in-r)))
+  -- and each of them has its plan
+  pub planned_anew : (s r : ℕ) (before after : Plans) → AllPlanned k old before s → JudgedAgain k new s near before r after → AllPlanned k new after r
+  planned_anew s r before after plans j b in-r = planned (has near b) refl (j.each b)
+    where
+      planned : (t : Bool) → has near b ≡ t → JudgedBoard k new t (has s b) b (plan_of before b) (has r b) (plan_of after b) → PlanIn k new b (plan_of after b)
+      planned true x y = y.0
+      planned false x y = subst (PlanIn k new b) (sym y.1) (same_plan b x (plan_of before b) (plans b (sym y.0 ∙ in-r)))

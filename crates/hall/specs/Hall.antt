@@ -229,11 +229,19 @@ pub record Reaches {V : Type 0} (h : Hall V) (s b m r : ℕ) : Type 0 where
   pub these : (c : ℕ) → has s c ≡ true → has r c ≡ true
   pub far : (p : ℕ) (e : End) → p < m → far_in h b p ≡ Some e → has r e.board ≡ true
 
--- r has the boards of s and their neighbours
-pub record NearAll {V : Type 0} (h : Hall V) (s r : ℕ) : Type 0 where
+-- r has the boards of s, and the neighbours of those below m
+pub record NearAll {V : Type 0} (h : Hall V) (s m r : ℕ) : Type 0 where
   pub small : r < 2 ^ 64
   pub these : (c : ℕ) → has s c ≡ true → has r c ≡ true
-  pub neighbours : (b p : ℕ) (e : End) → has s b ≡ true → far_in h b p ≡ Some e → has r e.board ≡ true
+  pub neighbours : (b p : ℕ) (e : End) → b < m → has s b ≡ true → far_in h b p ≡ Some e → has r e.board ≡ true
+
+-- r is the set of enabled boards, where s was it before the boards of `moved` moved
+abbrev pub EnabledAfter : {V : Type 0} → Kind V → Hall V → ℕ → ℕ → ℕ → Type 0
+EnabledAfter {V} k h s moved r = (before : Hall V) → EnabledSet k before s → Turned k before moved h → EnabledSet k h r
+
+-- every board of r is planned as it would move, where every board of s was before the boards of `moved` moved
+abbrev pub PlannedAfter : {V : Type 0} → Kind V → Hall V → (s moved : ℕ) → Plans → ℕ → Plans → Type 0
+PlannedAfter {V} k h s moved plans r after = (before : Hall V) → AllPlanned k before plans s → Turned k before moved h → AllPlanned k h after r
 
 -- every board of s is enabled
 abbrev pub AllEnabled : {V : Type 0} → Kind V → Hall V → ℕ → Type 0

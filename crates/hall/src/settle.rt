@@ -1,6 +1,6 @@
 ghost use Rattle.std.specs.Prelude.{◌≡◌, ℕ, ◌<◌, true, List};
 ghost use Rattle.sets.specs.Sets.{has};
-ghost use Rattle.hall.specs.Hall.{Reaches, NearAll};
+ghost use Rattle.hall.specs.Hall.{boards_in, Reaches, NearAll, EnabledAfter, PlannedAfter};
 ghost use Rattle.hall.specs.Runs.{Settles, Call, Run, IsSettled, EveryRun};
 
 use crate::plans::Plans;
@@ -28,7 +28,7 @@ impl<L: Length> Hall<L> {
 
     // The boards of the set and their neighbours: nobody else sees anything new when they move.
     fn near(&self, moved: u64) -> u64
-        ensures { NearAll self.now moved result }
+        ensures { NearAll self.now moved (boards_in self.now) result }
     {
         let mut near = moved;
         for board in Members::of(moved) {
@@ -37,8 +37,18 @@ impl<L: Length> Hall<L> {
         near
     }
 
-    // While some board is enabled, asks the picker and makes the turn with its choice; then only who is near those that
-    // moved is judged again. It ends, whoever the picker passes over, since every turn leaves less to do.
+    // The enabled boards once those of `moved` have moved, where those of `before` were enabled and had their plans:
+    // only who is near is judged again.
+    fn enabled_after(&self, plans: &mut Plans, before: u64, moved: u64) -> u64
+        ensures enabled { EnabledAfter L.Length.meaning self.now before moved result }
+        ensures planned { PlannedAfter L.Length.meaning self.now before moved plans.old result plans.new }
+    {
+        let near = self.near(moved);
+        self.judge_again(plans, before, near)
+    }
+
+    // While some board is enabled, asks the picker and makes the turn with its choice. It ends, whoever the picker
+    // passes over, since every turn leaves less to do.
     pub fn settle<P: Picker>(&mut self, picker: &mut P)
         ensures steps { Settles L.Length.meaning P.Picker.picks picker.old self.old picker.new self.new }
         ensures settled { (calls : List Call) → Run L.Length.meaning calls self.old → IsSettled L.Length.meaning self.new }
@@ -49,8 +59,7 @@ impl<L: Length> Hall<L> {
         while enabled != 0 {
             let chosen = picker.ask(enabled);
             self.advance(&plans, chosen);
-            let near = self.near(chosen);
-            enabled = self.judge_again(&mut plans, enabled, near);
+            enabled = self.enabled_after(&mut plans, enabled, chosen);
         }
     }
 }

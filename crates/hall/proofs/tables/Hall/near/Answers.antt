@@ -16,4 +16,4 @@ pub returns : goal.returns
 returns g c =
     let inv = c.loop-board.invariant in
     let from = c.loop-board.board-iterator.from in
-    near_all c.args.self.now c.args.moved from c.loop-board.near inv.1 (subst (λ s. (b : ℕ) → from ≤ b → has s b ≡ false) inv.0 c.in-None.ensures.steps)
+    near_all c.args.self.now c.args.moved from c.loop-board.near _ inv.1 (subst (λ s. (b : ℕ) → from ≤ b → has s b ≡ false) inv.0 c.in-None.ensures.steps)

@@ -4,13 +4,12 @@ use Rattle.hall.specs.Hall.{EnabledSet, Turned}
 use Rattle.hall.specs.Runs.{Settles}
 use Rattle.hall.specs.Runs.Settles.{at_rest, asked}
 use Rattle.hall.specs.declared.tables.Hall.{Hall}
-use Rattle.hall.proofs.Nearby.{enabled_anew}
 use Rattle.hall.proofs.Running.{less_toil, every_run, settling, settle_settles}
 use Rattle.hall.proofs.tables.Hall.settle.Given as given
 use Rattle.hall.proofs.tables.Hall.settle.Goals as goal
 
 -- the choice holds only enabled boards
-chooses : (g : given.Over) (c : goal.After-judge_again-enabled g) → Chooses c.ask-chosen.result c.loop-enabled.enabled
+chooses : (g : given.Over) (c : goal.After-enabled_after-enabled g) → Chooses c.ask-chosen.result c.loop-enabled.enabled
 chooses g c = subst (λ x. Chooses x c.loop-enabled.enabled) (sym c.ask-chosen.ensures.answer) (g.met.P.Picker.chooses c.loop-enabled.picker c.loop-enabled.enabled c.loop-enabled.invariant.0.small)
 
 pub advance-requires : goal.advance-requires
@@ -19,7 +18,7 @@ advance-requires g c =
     (search rules, λ b in-choice. c.loop-enabled.invariant.1 b (chosen.within b in-choice))
 
 -- and these have moved
-turned : (g : given.Over) (c : goal.After-judge_again-enabled g) → Turned g.L.Length.meaning c.loop-enabled.self c.ask-chosen.result c.advance.new.self
+turned : (g : given.Over) (c : goal.After-enabled_after-enabled g) → Turned g.L.Length.meaning c.loop-enabled.self c.ask-chosen.result c.advance.new.self
 turned g c = c.advance.ensures
 
 pub loop-enabled-smaller : goal.loop-enabled-smaller
@@ -33,10 +32,9 @@ loop-enabled-preserved g c =
     let old = c.loop-enabled.self in
     let new = c.advance.new.self in
     let s = c.loop-enabled.enabled in
-    let again = c.judge_again-enabled in
+    let anew = c.enabled_after-enabled.ensures in
     let made = subst (λ x. Turned k old x new) c.ask-chosen.ensures.answer (turned g c) in
-    let anew = enabled_anew k old new c.ask-chosen.result c.near-near.result (turned g c) c.near-near.ensures s again.result c.loop-enabled.plans again.new.plans inv.0 inv.1 again.ensures in
-    (anew.0, anew.1, λ q end d. inv.2 q end (asked s inv.0 c.loop-enabled-test.true made (subst (λ (x : g.row.P.Denot). Settles k picks x new q end) c.ask-chosen.ensures.next d)))
+    (anew.enabled old inv.0 (turned g c), anew.planned old inv.1 (turned g c), λ q end d. inv.2 q end (asked s inv.0 c.loop-enabled-test.true made (subst (λ (x : g.row.P.Denot). Settles k picks x new q end) c.ask-chosen.ensures.next d)))
 
 pub returns : goal.returns
 returns g c =
