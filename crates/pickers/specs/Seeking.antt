@@ -19,7 +19,7 @@ seeks (suc n) s from b l lt = go (has s from) refl (λ m far. seeks n s (suc fro
     go false e later =
         let ne : from ≡ b → ⊥ = λ same. both_ways (has s from) e (ap (has s) same ∙ l.there) in
         let on = l.onward in
-        later (record { below = l.below; there = l.there; onward = omega arith; least = λ c on lt. l.least c (omega arith) lt }) (omega arith)
+        later (record { there = l.there; onward = omega arith; least = λ c on lt. l.least c (omega arith) lt }) (omega arith)
 
 pub seeks_none : (n s from : ℕ) → ((b : ℕ) → from ≤ b → has s b ≡ false) → least_of n s from ≡ None
 seeks_none zero s from none = refl

@@ -185,13 +185,11 @@ trailing (suc k) x small ne = trail x (x % 2) (count_trailing_zeros k (x / 2)) r
 pub in_sixty_four : (s b : ℕ) → s < 2 ^ 64 → has s b ≡ true → b < 64
 in_sixty_four s b small in-s = by_cases (dec_lt b 64) (λ lt. lt) (λ ge. absurd (both_ways (has s b) (none_past s b small (omega arith)) in-s))
 
-pub least_from : (s from : ℕ) → s < 2 ^ 64 → s / 2 ^ from < 2 ^ 64 → (s / 2 ^ from ≡ 0 → ⊥) → LeastFrom s from (from + count_trailing_zeros 64 (s / 2 ^ from))
-least_from s from whole small ne =
+pub least_from : (s from : ℕ) → s / 2 ^ from < 2 ^ 64 → (s / 2 ^ from ≡ 0 → ⊥) → LeastFrom s from (from + count_trailing_zeros 64 (s / 2 ^ from))
+least_from s from small ne =
     let t = trailing 64 (s / 2 ^ from) small ne in
-    let there = sym (has_shr s from _) ∙ t.there in
     record {
-      below = in_sixty_four s _ whole there;
-      there = there;
+      there = sym (has_shr s from _) ∙ t.there;
       onward = omega arith;
       least = λ c on lt. ap (has s) (let e : c ≡ from + (c - from) = omega arith in e) ∙ sym (has_shr s from (c - from)) ∙ t.least (c - from) (omega arith);
     }

@@ -6,7 +6,6 @@ has s b = s / 2 ^ b % 2 == 1
 
 -- b is the least board of s from `from` on
 pub record LeastFrom (s from b : ℕ) : Type 0 where
-  pub below : b < 64
   pub there : has s b ≡ true
   pub onward : from ≤ b
   pub least : (c : ℕ) → from ≤ c → c < b → has s c ≡ false

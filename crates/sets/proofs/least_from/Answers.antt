@@ -10,4 +10,4 @@ pub returns-then-rest-eq0 : goal.returns-then-rest-eq0
 returns-then-rest-eq0 c = none_from c.args.set c.args.from c.if-rest-eq0.true
 
 pub returns-else-rest-eq0 : goal.returns-else-rest-eq0
-returns-else-rest-eq0 c = least_from c.args.set c.args.from c.ranges.set.fits (omega (arith, shr_le c.args.set c.args.from, c.ranges.set.fits)) c.if-rest-eq0.false
+returns-else-rest-eq0 c = least_from c.args.set c.args.from (omega (arith, shr_le c.args.set c.args.from, c.ranges.set.fits)) c.if-rest-eq0.false

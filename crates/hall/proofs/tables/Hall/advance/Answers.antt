@@ -50,7 +50,7 @@ loop-board-preserved-in-Some-planned g c =
           let mid = skipped k h s from m old.ledger.records old.tallies inv.2 found.onward found.least in
           let planned = subst (λ (p : Option Plan). PlanIn k h m p) c.in-Some-planned.is (right m found.there) in
           let move = follows_plan k h.cabling.n (far_in h) (records_in k h) m plan next planned is in
-          subst (λ x. Midway k h s x after.ledger.records after.tallies) (sym step.2) (noted k h old after s m plan.rule next mid found.there found.below move c.note.ensures),
+          subst (λ x. Midway k h s x after.ledger.records after.tallies) (sym step.2) (noted k h old after s m plan.rule next mid found.there step.3 move c.note.ensures),
     )
 
 pub returns : goal.returns

@@ -32,7 +32,7 @@ loop-board-preserved g c =
     let step = c.in-Some.ensures.steps in
     let found = subst (λ x. LeastFrom x from m) inv.0 step.0 in
     let whole : length old.of ≡ 64 = search rules in
-    let inside : m < length old.of = omega (arith, found.below) in
+    let inside : m < length old.of = omega (arith, step.3) in
     let next = judged k h s d first from m e e old new plan inv.1 found c.plan_at-plan.ensures (put_plan old m plan inside) (other_plan old m plan) inv.1.small (λ b ne. refl) (not_yet inv.1 found ∙ c.if-is_some.ensures) in
     (step.1 ∙ inv.0, subst (λ x. Judging k h s d first x e new) (sym step.2) next)
 
@@ -54,8 +54,8 @@ loop-board-preserved-then-is_some g c =
     let step = c.in-Some.ensures.steps in
     let found = subst (λ x. LeastFrom x from m) inv.0 step.0 in
     let whole : length old.of ≡ 64 = search rules in
-    let inside : m < length old.of = omega (arith, found.below) in
-    let next = judged k h s d first from m e r old new plan inv.1 found c.plan_at-plan.ensures (put_plan old m plan inside) (other_plan old m plan) c.with-enabled.type_inv (with_others e r m c.with-enabled.ensures) (with_itself e r m found.below c.with-enabled.ensures ∙ c.if-is_some.ensures) in
+    let inside : m < length old.of = omega (arith, step.3) in
+    let next = judged k h s d first from m e r old new plan inv.1 found c.plan_at-plan.ensures (put_plan old m plan inside) (other_plan old m plan) c.with-enabled.type_inv (with_others e r m c.with-enabled.ensures) (with_itself e r m step.3 c.with-enabled.ensures ∙ c.if-is_some.ensures) in
     (step.1 ∙ inv.0, subst (λ x. Judging k h s d first x r new) (sym step.2) next)
 
 pub returns : goal.returns
