@@ -1,5 +1,5 @@
 -- Fields that are taken from the front, one by one.
-use Rattle.std.proofs.Common.{◌≡◌, ℕ, ◌+◌, ◌-◌, ◌<◌, List, [], ◌∷◌, ◌++◌, length, replicate, Some, None, sym, refl, ap, subst, inl, inr, append_assoc, append-nil, arith, length-append, Bor}
+use Rattle.std.proofs.Common.{◌≡◌, ℕ, ◌+◌, ◌<◌, List, [], ◌∷◌, ◌++◌, length, replicate, Some, None, sym, refl, ap, subst, inl, inr, append_assoc, append-nil, arith, length-append, Bor}
 use Rattle.words.specs.Words.{Spaced}
 use Rattle.words.proofs.Unique.{some_bytes}
 use Rattle.commands.specs.Fields.{numeral, Numerals}

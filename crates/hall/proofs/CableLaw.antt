@@ -1,11 +1,11 @@
 -- The law of cables, out of the struct that keeps it.
-use Rattle.std.proofs.Common.{◌≡◌, ℕ, zero, suc, ◌<◌, ◌≤◌, ◌⊎◌, List, [], length, get_or, replicate, Some, None, Option, sym, refl, ap, ◌∙◌, ⊎_elim, arith}
+use Rattle.std.proofs.Common.{◌≡◌, ℕ, zero, suc, ◌<◌, ◌≤◌, ◌⊎◌, [], length, get_or, replicate, Some, None, Option, refl, ap, arith}
 use mathlib.Core.HLevel.{Π_prop, ×_prop, hedberg, ⊥_prop}
 use mathlib.Core.Logic.{∥∥₁_elim}
 use native.Mathlib.Bridge.{le_prop}
 use native.Mathlib.Decide.{ℕ_discrete}
 use lib.ListN.{get_or-replicate}
-use Rattle.network.specs.Cables.{Cabled, end_at}
+use Rattle.network.specs.Cables.{Cabled}
 use Rattle.network.specs.declared.End.{End}
 use Rattle.hall.specs.Tables.{far_of, Rows}
 

@@ -1,8 +1,8 @@
 -- Judging the boards in doubt one after another.
-use Rattle.std.proofs.Common.{◌≡◌, ℕ, ◌+◌, ◌^◌, ◌<◌, ◌≤◌, Bool, true, false, not, ◌&&◌, ◌||◌, eqb, ltb, length, get_or, set, is_some, None, MatchBool, Option, sym, refl, ap, ◌∙◌, subst, ap₂, arith, get_or-set_other, get_or-set_same, lt-ltb, eq-eqb, ne_eqb, eqb-true}
+use Rattle.std.proofs.Common.{◌≡◌, ℕ, ◌+◌, ◌^◌, ◌<◌, ◌≤◌, Bool, true, false, not, ◌&&◌, ◌||◌, eqb, ltb, length, set, is_some, None, MatchBool, Option, sym, refl, ap, ◌∙◌, subst, ap₂, arith, get_or-set_other, get_or-set_same, lt-ltb, eq-eqb, ne_eqb, eqb-true}
 use mathlib.Core.Logic.{by_cases}
 use native.Mathlib.Decide.{ℕ_discrete, dec_lt}
-use borrow.Author.Tests.{both_ways, eqb-false}
+use borrow.Author.Tests.{eqb-false}
 use Rattle.lengths.specs.Kind.{Kind}
 use Rattle.rules.specs.declared.judge.Plan.{Plan}
 use Rattle.sets.specs.Sets.{has, LeastFrom}

@@ -1,5 +1,5 @@
 -- A turn in the making: of the boards of the set, those below m have moved.
-use Rattle.std.proofs.Common.{◌≡◌, ℕ, ◌+◌, ◌<◌, ◌≤◌, Bool, true, false, ◌&&◌, ltb, List, length, get_or, set, Some, None, Option, sym, refl, ap, ◌∙◌, subst, ap₂, arith, le-ltb, lt-ltb}
+use Rattle.std.proofs.Common.{◌≡◌, ℕ, ◌+◌, ◌<◌, ◌≤◌, Bool, true, false, ◌&&◌, ltb, List, get_or, Some, None, Option, sym, ap, ◌∙◌, subst, ap₂, arith, le-ltb, lt-ltb}
 use mathlib.Core.Logic.{by_cases}
 use native.Mathlib.Decide.{ℕ_discrete, dec_lt}
 use Rattle.lengths.specs.Kind.{Kind}
@@ -7,7 +7,7 @@ use Rattle.rules.specs.declared.record.Record.{Record}
 use Rattle.rules.specs.declared.record.Verdict.{Verdict}
 use Rattle.network.specs.Turns.{Part}
 use Rattle.sets.specs.Sets.{has}
-use Rattle.hall.specs.Hall.{boards_in, far_in, records_in, counts_in, count_of, counted, nothing, IsVerdict, MovesBy, MoveIn, Noted, Turned}
+use Rattle.hall.specs.Hall.{boards_in, far_in, records_in, counts_in, count_of, counted, nothing, MovesBy, MoveIn, Noted, Turned}
 use Rattle.hall.specs.Tables.{rec_of}
 use Rattle.hall.specs.declared.tables.Hall.{Hall}
 use Rattle.hall.specs.declared.tables.Tally.{Tally}

@@ -1,20 +1,19 @@
 -- Who sees nothing new when some boards move: those that are not near.
-use Rattle.std.proofs.Common.{◌≡◌, ℕ, ◌+◌, ◌^◌, ◌<◌, ◌≤◌, Bool, true, false, ◌&&◌, ◌||◌, eqb, ltb, Some, None, Option, sym, refl, ap, ◌∙◌, subst, ap₂, arith, lt-ltb, eq-eqb}
+use Rattle.std.proofs.Common.{◌≡◌, ℕ, ◌+◌, ◌^◌, ◌<◌, ◌≤◌, Bool, true, false, ◌&&◌, ◌||◌, eqb, ltb, Some, None, Option, sym, refl, ap, ◌∙◌, subst, arith}
 use mathlib.Core.Logic.{by_cases}
 use native.Mathlib.Decide.{ℕ_discrete}
 use borrow.Author.Tests.{both_ways}
 use Rattle.lengths.specs.Kind.{Kind}
 use Rattle.rules.specs.Rules.{Enabled, TakesAt}
 use Rattle.rules.specs.declared.judge.Plan.{Plan}
-use Rattle.rules.specs.declared.neighbourhood.Seen.{Seen}
 use Rattle.rules.specs.declared.record.Record.{Record}
 use Rattle.rules.specs.declared.record.Verdict.{Verdict}
-use Rattle.network.specs.Cables.{Cabled, around, shown, end_at}
+use Rattle.network.specs.Cables.{around, shown, end_at}
 use Rattle.network.specs.Turns.{Part}
 use Rattle.network.specs.declared.End.{End}
 use Rattle.sets.specs.Sets.{has, LeastFrom}
 use Rattle.sets.proofs.Walking.{one_further, all_passed}
-use Rattle.hall.specs.Hall.{boards_in, far_in, records_in, VerdictIn, MovesBy, TellsEnabled, EnabledSet, JudgedBoard, JudgedAgain, PlanIn, plan_of, AllPlanned, Turned, Reaches, NearAll}
+use Rattle.hall.specs.Hall.{boards_in, far_in, records_in, MovesBy, TellsEnabled, EnabledSet, JudgedBoard, JudgedAgain, PlanIn, plan_of, AllPlanned, Turned, Reaches, NearAll}
 use Rattle.hall.specs.Tables.{far_of}
 use Rattle.hall.specs.declared.cabling.Cabling.{Cabling}
 use Rattle.hall.specs.declared.plans.Plans.{Plans}

@@ -1,13 +1,10 @@
 -- Every run keeps the claims, from the laws of lengths and what each call does.
-use Rattle.std.proofs.Common.{◌≡◌, ℕ, zero, suc, ◌+◌, ◌-◌, ◌^◌, ◌<◌, ◌≤◌, min, Bool, true, false, cond, not, ◌||◌, eqb, List, [], ◌∷◌, is_some, Some, None, Ok, Err, Option, sym, refl, ap, ◌∙◌, subst, ⊎_elim, add-zero, add_assoc, zero-add, arith}
-use mathlib.Core.Path.{fun_ext}
+use Rattle.std.proofs.Common.{◌≡◌, ℕ, zero, suc, ◌+◌, ◌-◌, ◌^◌, ◌<◌, ◌≤◌, min, Bool, true, false, cond, eqb, List, [], ◌∷◌, Some, None, Ok, Err, Option, sym, refl, ap, ◌∙◌, subst, add-zero, add_assoc, arith}
 use mathlib.Core.Logic.{by_cases}
-use native.Mathlib.Decide.{ℕ_discrete}
 use borrow.Author.Tests.{both_ways, not-false}
 use Rattle.lengths.specs.Kind.{Kind, Laws}
-use Rattle.rules.specs.declared.record.Record.{Record}
 use Rattle.rules.specs.declared.record.Verdict.{Verdict}
-use Rattle.network.specs.Cables.{Cabled, Weighed, Adds, Removes, end_at, root_of}
+use Rattle.network.specs.Cables.{Cabled, Weighed, Adds}
 use Rattle.network.specs.Toil.{toil}
 use Rattle.network.specs.Turns as network
 use Rattle.network.specs.Turns.{Turn, Quiet, Repair, AliveRoots, alive_root, used}
@@ -23,8 +20,8 @@ use Rattle.pickers.specs.Choices.{Chooses}
 use Rattle.sets.specs.Sets.{has}
 use Rattle.sets.proofs.Bits.{has_zero, some_board}
 use Rattle.hall.specs.Faults.{Checks, refusal, first_of}
-use Rattle.hall.specs.Hall.{boards_in, far_in, records_in, counts_in, counted, IsVerdict, VerdictIn, MovesBy, EnabledSet, Turned, Makes, Fresh, Anew, Wires, Cuts, Planted, Turns, wire_checks, SameRecords, SameCables}
-use Rattle.hall.specs.Runs.{Settles, Settling, Call, Does, Run, changed, accepted, last_change, settle_moves, call_moves, moves_since, EachIn, EachOf, EachTurn, alive_in, NoNewRoot, AtRest, IsSettled, Bounded, Claims, EveryRun}
+use Rattle.hall.specs.Hall.{boards_in, far_in, records_in, counts_in, counted, IsVerdict, VerdictIn, MovesBy, EnabledSet, Turned, wire_checks}
+use Rattle.hall.specs.Runs.{Settles, Settling, Call, Does, Run, last_change, settle_moves, moves_since, EachIn, EachOf, EachTurn, NoNewRoot, AtRest, IsSettled, Bounded, EveryRun}
 use Rattle.hall.specs.Runs.Settles.{at_rest, asked}
 use Rattle.hall.specs.Runs.Settling.{no_more, one_turn}
 use Rattle.hall.specs.Runs.Does.{wires, cuts, plants, turns, refuses_turn, settles}

@@ -1,16 +1,13 @@
 -- From what the rules say of a neighbourhood to what a hall says of a board.
-use Rattle.std.proofs.Common.{◌≡◌, ℕ, ◌+◌, ◌^◌, ◌<◌, ◌≤◌, Bool, true, false, cond, ◌&&◌, ◌||◌, eqb, ltb, is_some, Some, None, Option, sym, refl, ap, ◌∙◌, subst, ap₂, ⊎_elim, arith, lt-ltb, eq-eqb, ne_eqb}
+use Rattle.std.proofs.Common.{◌≡◌, ℕ, ◌^◌, ◌<◌, ◌≤◌, Bool, true, false, cond, ◌||◌, is_some, Some, None, Option, sym, refl, ap, ◌∙◌, subst, ⊎_elim, arith}
 use mathlib.Core.Logic.{by_cases}
-use native.Mathlib.Decide.{ℕ_discrete, dec_lt}
+use native.Mathlib.Decide.{dec_lt}
 use borrow.Author.Tests.{both_ways}
 use Rattle.lengths.specs.Kind.{Kind}
 use Rattle.rules.specs.Rules as Rules
 use Rattle.rules.specs.Rules.{Judged, Moves, Enabled, Effect, Takes, TakesAt, LeastOffer, taken, followed, ruled, suits, offered}
-use Rattle.rules.specs.Status.{same}
 use Rattle.rules.specs.declared.judge.Plan.{Plan}
 use Rattle.rules.specs.declared.neighbourhood.Seen.{Seen}
-use Rattle.rules.specs.declared.record.Status.{Status}
-use Rattle.rules.specs.declared.record.Status.TheVariants.{I, C, EB, EF}
 use Rattle.rules.specs.declared.record.Record.{Record}
 use Rattle.rules.specs.declared.record.Verdict.{Verdict}
 use Rattle.rules.specs.declared.record.Verdict.TheVariants.{RC, REB, REF, RI, RR}

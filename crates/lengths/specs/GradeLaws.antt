@@ -6,7 +6,7 @@ use Rattle.std.proofs.Math.Bridge.{le_prop}
 use Rattle.std.proofs.Math.Decide.{dec_lt}
 use Rattle.std.proofs.lemmas.Bool.{eqb-false}
 use Rattle.lengths.specs.Codes.{ByCode, from_below, not_below, from_not_below, chain, no_tie, below}
-use Rattle.lengths.specs.Kind.{Laws, Within, Reached, onward, along, AllAdmitted}
+use Rattle.lengths.specs.Kind.{Laws, onward, along, AllAdmitted}
 use Rattle.lengths.specs.Grade.{grade, in_grade, up_to}
 use Rattle.lengths.specs.declared.grade.Grade.{Grade}
 

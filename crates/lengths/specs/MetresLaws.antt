@@ -1,11 +1,11 @@
 -- Metres keep the laws of lengths.
 use Rattle.std.specs.Prelude.{◌≡◌, ℕ, suc, ◌+◌, ◌*◌, ◌^◌, ◌<◌, ◌≤◌, Bool, true, false, cond, ◌&&◌, List, [], ◌∷◌, length, Some, None, Option, nat_le, refl}
-use Rattle.std.proofs.Common.{sym, ap, ◌∙◌, arith, lit<, leb-true, le-leb}
+use Rattle.std.proofs.Common.{sym, ap, ◌∙◌, arith, leb-true, le-leb}
 use mathlib.Core.HLevel.{is_prop→PathP}
 use Rattle.std.proofs.Math.Bridge.{le_prop}
 use Rattle.std.proofs.Math.Decide.{dec_lt}
 use Rattle.lengths.specs.Codes.{ByCode, from_below, not_below, from_not_below, chain, no_tie, below}
-use Rattle.lengths.specs.Kind.{Laws, Within, Reached, onward, along, AllAdmitted}
+use Rattle.lengths.specs.Kind.{Laws, onward, along, AllAdmitted}
 use Rattle.lengths.specs.Metres.{metres, in_metres, up_to}
 use Rattle.lengths.specs.declared.metres.Metres.{Metres}
 

@@ -1,10 +1,9 @@
 -- Turns: any boards that have a verdict move together, each by the records as they stood before.
-use Rattle.std.specs.Prelude.{◌≡◌, ℕ, suc, ◌+◌, ◌<◌, Bool, true, false, cond, not, ◌&&◌, ◌||◌, Some, None, Option, ◌==◌, ◌≢◌}
+use Rattle.std.specs.Prelude.{◌≡◌, ℕ, ◌+◌, ◌<◌, Bool, true, cond, not, ◌&&◌, ◌||◌, Some, None, Option, ◌==◌, ◌≢◌}
 use Rattle.lengths.specs.Kind.{Kind}
-use Rattle.rules.specs.Rules.{abnormal, Enabled, Judged, Effect}
+use Rattle.rules.specs.Rules.{abnormal, Enabled, Effect}
 use Rattle.rules.specs.Status.{same}
 use Rattle.rules.specs.declared.record.Record.{Record}
-use Rattle.rules.specs.declared.record.Status.{Status}
 use Rattle.rules.specs.declared.record.Status.TheVariants.{C, EB}
 use Rattle.rules.specs.declared.record.Verdict.{Verdict}
 use Rattle.rules.specs.declared.record.Verdict.TheVariants.{RC, REB, REF, RI, RR}

@@ -1,5 +1,5 @@
 -- What a picker may choose, and what All and Ring choose.
-use Rattle.std.specs.Prelude.{◌≡◌, ℕ, zero, suc, ◌+◌, ◌^◌, ◌<◌, Bool, true, false, cond, Some, None, Option}
+use Rattle.std.specs.Prelude.{◌≡◌, ℕ, zero, suc, ◌+◌, ◌^◌, ◌<◌, Bool, true, false, Some, None, Option}
 use Rattle.sets.specs.Sets.{has}
 use Rattle.pickers.specs.declared.all.All.{All}
 use Rattle.pickers.specs.declared.ring.Ring.{Ring}

@@ -1,7 +1,7 @@
 -- The least offer among the ports below a bound: what the search for it keeps.
-use Rattle.std.proofs.Common.{◌≡◌, ℕ, ◌+◌, ◌<◌, ◌≤◌, Bool, true, false, ◌⊎◌, Some, None, Option, sym, refl, ap, ◌∙◌, inl, inr, ⊎_elim, arith}
-use Rattle.lengths.specs.Kind.{Kind, Laws}
-use Rattle.rules.specs.Rules.{offered, Offers, SomeOffer, LeastOffer}
+use Rattle.std.proofs.Common.{◌≡◌, ℕ, ◌<◌, true, false, Some, None, Option}
+use Rattle.lengths.specs.Kind.{Kind}
+use Rattle.rules.specs.Rules.{offered}
 use Rattle.rules.specs.declared.neighbourhood.Seen.{Seen}
 
 -- port p offers l, and of the ports below n none offers less, and none below p the same

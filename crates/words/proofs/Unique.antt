@@ -1,5 +1,5 @@
 -- Bytes are cut at a stop, into lines and into words, and read as a number, in one way only.
-use Rattle.std.proofs.Common.{◌≡◌, ℕ, ◌+◌, ◌<◌, ◌⊎◌, List, [], ◌∷◌, ◌++◌, length, sym, refl, ap, ◌∙◌, subst, inl, inr, ⊎_elim, arith, length-append}
+use Rattle.std.proofs.Common.{◌≡◌, ℕ, ◌<◌, List, [], ◌∷◌, ◌++◌, length, sym, refl, ap, ◌∙◌, subst, inl, inr, ⊎_elim, arith, length-append}
 use Rattle.std.proofs.ByRecursion.{All-weaker}
 use Rattle.words.specs.Numerals.{Numeral}
 use Rattle.words.specs.Pieces.{Lacks, First}

@@ -1,4 +1,4 @@
-use Rattle.std.proofs.Common.{ℕ, ◌-◌, List, length, sym, subst}
+use Rattle.std.proofs.Common.{ℕ, List, length, sym, subst}
 use Rattle.std.proofs.lemmas.Bool.{both_ways}
 use Rattle.commands.specs.Commands.{Written}
 use Rattle.commands.specs.Fields.{Counts, name_of, sorts}

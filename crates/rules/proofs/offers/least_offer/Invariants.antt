@@ -1,4 +1,3 @@
-use Rattle.std.proofs.Common.{◌≡◌, ℕ, ◌<◌, MatchOption}
 use Rattle.rules.proofs.Least.{LeastBelow}
 use Rattle.rules.proofs.offers.least_offer.Given as goal
 

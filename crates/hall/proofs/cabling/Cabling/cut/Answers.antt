@@ -1,7 +1,5 @@
 use Rattle.std.proofs.Common.{None, refl}
-use Rattle.network.specs.Cables.{Removes}
-use Rattle.hall.specs.Tables.{far_of}
-use Rattle.hall.proofs.CableLaw.{InTable, cabled, in_table}
+use Rattle.hall.proofs.CableLaw.{cabled, in_table}
 use Rattle.hall.proofs.Rewiring.{put, put_rows, removes, removes_cabled}
 use Rattle.hall.proofs.cabling.Cabling.cut.Goals as goal
 

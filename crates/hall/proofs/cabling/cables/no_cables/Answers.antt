@@ -1,4 +1,3 @@
-use Rattle.std.proofs.Common.{refl}
 use Rattle.hall.proofs.CableLaw.{empty_rows, empty_free}
 use Rattle.hall.proofs.cabling.cables.no_cables.Goals as goal
 

@@ -1,9 +1,8 @@
-use Rattle.std.proofs.Common.{◌≡◌, sym, subst, rules}
+use Rattle.std.proofs.Common.{sym, subst, rules}
 use Rattle.pickers.specs.Choices.{Chooses}
 use Rattle.hall.specs.Hall.{EnabledSet, Turned}
 use Rattle.hall.specs.Runs.{Settles}
 use Rattle.hall.specs.Runs.Settles.{at_rest, asked}
-use Rattle.hall.specs.declared.tables.Hall.{Hall}
 use Rattle.hall.proofs.Running.{less_toil, every_run, settling, settle_settles}
 use Rattle.hall.proofs.tables.Hall.settle.Given as given
 use Rattle.hall.proofs.tables.Hall.settle.Goals as goal

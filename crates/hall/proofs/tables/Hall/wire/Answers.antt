@@ -1,4 +1,4 @@
-use Rattle.std.proofs.Common.{sym, refl, rules}
+use Rattle.std.proofs.Common.{refl, rules}
 use Rattle.hall.proofs.Beginning.{anew}
 use Rattle.hall.proofs.tables.Hall.wire.Goals as goal
 

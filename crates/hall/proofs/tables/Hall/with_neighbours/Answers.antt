@@ -1,4 +1,4 @@
-use Rattle.std.proofs.Common.{◌≡◌, ℕ, true, Some, ap, ◌∙◌, subst, arith}
+use Rattle.std.proofs.Common.{◌≡◌, ℕ, true, Some, ◌∙◌, arith}
 use Rattle.network.specs.declared.End.{End}
 use Rattle.sets.specs.Sets.{has}
 use Rattle.hall.specs.Hall.{far_in}

@@ -1,7 +1,7 @@
-use Rattle.std.proofs.Common.{◌≡◌, ℕ, ◌<◌, sym, ap, ◌∙◌}
+use Rattle.std.proofs.Common.{◌<◌, sym, ap, ◌∙◌}
 use Rattle.std.proofs.lemmas.Nat.{one_shl}
 use Rattle.sets.proofs.Bits.{in_sixty_four}
-use Rattle.pickers.specs.Choices.{following, choose_one}
+use Rattle.pickers.specs.Choices.{choose_one}
 use Rattle.pickers.specs.Seeking.{follows}
 use Rattle.pickers.proofs.ring.RingPicker.ask.Goals as goal
 

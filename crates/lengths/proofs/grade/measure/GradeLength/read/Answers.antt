@@ -1,4 +1,4 @@
-use Rattle.std.proofs.Common.{sym, refl, arith}
+use Rattle.std.proofs.Common.{sym, refl}
 use native.Mathlib.Decide.{dec_lt}
 use Rattle.lengths.specs.GradeLaws.{gives}
 use Rattle.lengths.proofs.grade.measure.GradeLength.read.Goals as goal

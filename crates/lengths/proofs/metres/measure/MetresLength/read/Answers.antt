@@ -1,4 +1,4 @@
-use Rattle.std.proofs.Common.{sym, arith}
+use Rattle.std.proofs.Common.{sym}
 use native.Mathlib.Decide.{dec_lt}
 use Rattle.lengths.specs.MetresLaws.{gives}
 use Rattle.lengths.proofs.metres.measure.MetresLength.read.Goals as goal
