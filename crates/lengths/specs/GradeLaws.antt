@@ -5,10 +5,23 @@ use mathlib.Core.HLevel.{is_prop→PathP}
 use Rattle.std.proofs.Math.Bridge.{le_prop}
 use Rattle.std.proofs.Math.Decide.{dec_lt}
 use Rattle.std.proofs.lemmas.Bool.{eqb-false}
+use Rattle.std.specs.Ordering.{is_lt, nat_cmp, ordering_then}
 use Rattle.lengths.specs.Codes.{ByCode, from_below, not_below, from_not_below, chain, no_tie, below}
+use Rattle.std.specs.declared.cmp.Ordering.TheVariants.{Less, Equal, Greater}
 use Rattle.lengths.specs.Kind.{Laws, onward, along, AllAdmitted}
 use Rattle.lengths.specs.Grade.{grade, in_grade, up_to}
 use Rattle.lengths.specs.declared.grade.Grade.{Grade}
+
+-- grades are compared by their hops, and by the worst grade where those are equal
+hops_first : (s t u v : Bool) → is_lt (ordering_then (cond s Less (cond t Equal Greater)) (cond u Less (cond v Equal Greater))) ≡ (s || (t && u))
+hops_first true t u v = refl
+hops_first false true true v = refl
+hops_first false true false true = refl
+hops_first false true false false = refl
+hops_first false false u v = refl
+
+pub grade_ordered : (a b : Grade) → is_lt (ordering_then (nat_cmp a.hops b.hops) (nat_cmp a.worst b.worst)) ≡ grade.less a b
+grade_ordered a b = hops_first _ _ _ _
 
 pub same : (a b : Grade) → a.hops ≡ b.hops → a.worst ≡ b.worst → a ≡ b
 same a b e f = λ i. record {

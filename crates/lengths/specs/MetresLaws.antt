@@ -4,10 +4,21 @@ use Rattle.std.proofs.Common.{sym, ap, ◌∙◌, arith, leb-true, le-leb}
 use mathlib.Core.HLevel.{is_prop→PathP}
 use Rattle.std.proofs.Math.Bridge.{le_prop}
 use Rattle.std.proofs.Math.Decide.{dec_lt}
+use Rattle.std.specs.Ordering.{is_lt, nat_cmp}
 use Rattle.lengths.specs.Codes.{ByCode, from_below, not_below, from_not_below, chain, no_tie, below}
+use Rattle.std.specs.declared.cmp.Ordering.TheVariants.{Less, Equal, Greater}
 use Rattle.lengths.specs.Kind.{Laws, onward, along, AllAdmitted}
 use Rattle.lengths.specs.Metres.{metres, in_metres, up_to}
 use Rattle.lengths.specs.declared.metres.Metres.{Metres}
+
+-- metres are compared by their number
+number_lt : (s t : Bool) → is_lt (cond s Less (cond t Equal Greater)) ≡ s
+number_lt true t = refl
+number_lt false true = refl
+number_lt false false = refl
+
+pub metres_ordered : (a b : Metres) → is_lt (nat_cmp a.value b.value) ≡ metres.less a b
+metres_ordered a b = number_lt _ _
 
 pub same : (a b : Metres) → a.value ≡ b.value → a ≡ b
 same a b e = λ i. record { value = e i; fits = is_prop→PathP (λ (j : 𝕀). suc (e j) ≤ 2 ^ 32) (λ (j : 𝕀). le_prop) a.fits b.fits i }

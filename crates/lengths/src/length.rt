@@ -1,9 +1,10 @@
 ghost use Rattle.std.specs.Prelude.{◌≡◌};
+ghost use Rattle.std.specs.Ordering.{is_lt};
 ghost use Rattle.lengths.specs.Kind.{Kind, Laws};
 
 // A kind of length. `meaning` says all that a kind is, and each call answers exactly what it says;
 // `lawful` is the proof that the meaning keeps the laws on which the rules rest.
-pub trait Length: Copy {
+pub trait Length: Copy + Ord {
     ghost meaning: { Kind Self };
 
     ghost lawful: { Laws meaning };
@@ -15,9 +16,6 @@ pub trait Length: Copy {
     // The greatest value.
     fn ceiling() -> Self
         ensures { result ≡ meaning.ceiling };
-
-    fn less(self, other: Self) -> bool
-        ensures { result ≡ meaning.less self other };
 
     // Whether a cable may have this weight.
     fn admits(weight: u32) -> bool
@@ -33,4 +31,7 @@ pub trait Length: Copy {
     // The value of a code, or nothing where no value has it.
     fn read(code: u64) -> Option<Self>
         ensures { result ≡ meaning.decoded code };
+
+    // Values are compared as the meaning compares them.
+    ghost ordered: { (a b : Self) → is_lt (Self.Ord.cmp a b) ≡ meaning.less a b };
 }

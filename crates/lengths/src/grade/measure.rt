@@ -1,6 +1,6 @@
 ghost use Rattle.std.specs.Prelude.{◌≡◌};
 ghost use Rattle.lengths.specs.Grade.{grade};
-ghost use Rattle.lengths.specs.GradeLaws.{grade_laws};
+ghost use Rattle.lengths.specs.GradeLaws.{grade_laws, grade_ordered};
 
 use crate::grade::Grade;
 use crate::length::Length;
@@ -9,6 +9,8 @@ impl Length for Grade {
     ghost meaning = { grade };
 
     ghost lawful = { grade_laws };
+
+    ghost ordered = { grade_ordered };
 
     fn start() -> Grade {
         Grade { hops: 0, worst: 0 }
@@ -21,16 +23,12 @@ impl Length for Grade {
         }
     }
 
-    fn less(self, other: Grade) -> bool {
-        self.hops < other.hops || self.hops == other.hops && self.worst < other.worst
-    }
-
     fn admits(weight: u32) -> bool {
-        1 <= weight && weight <= 255
+        (1..=255).contains(&weight)
     }
 
     fn extend(self, weight: u32) -> Option<Grade> {
-        if weight < 1 || 255 < weight {
+        if !Grade::admits(weight) {
             return None;
         }
         let hops = self.hops.checked_add(1)?;
@@ -43,9 +41,7 @@ impl Length for Grade {
     }
 
     fn read(code: u64) -> Option<Grade> {
-        let Ok(hops) = u16::try_from(code / 256) else {
-            return None;
-        };
+        let hops = u16::try_from(code / 256).ok()?;
         let worst = (code % 256) as u8;
         Some(Grade { hops, worst })
     }

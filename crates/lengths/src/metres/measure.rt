@@ -1,6 +1,6 @@
 ghost use Rattle.std.specs.Prelude.{◌≡◌};
 ghost use Rattle.lengths.specs.Metres.{metres};
-ghost use Rattle.lengths.specs.MetresLaws.{metres_laws};
+ghost use Rattle.lengths.specs.MetresLaws.{metres_laws, metres_ordered};
 
 use crate::length::Length;
 use crate::metres::Metres;
@@ -10,6 +10,8 @@ impl Length for Metres {
 
     ghost lawful = { metres_laws };
 
+    ghost ordered = { metres_ordered };
+
     fn start() -> Metres {
         Metres { value: 0 }
     }
@@ -18,16 +20,12 @@ impl Length for Metres {
         Metres { value: u32::MAX }
     }
 
-    fn less(self, other: Metres) -> bool {
-        self.value < other.value
-    }
-
     fn admits(weight: u32) -> bool {
-        1 <= weight && weight <= 65_535
+        (1..=65_535).contains(&weight)
     }
 
     fn extend(self, weight: u32) -> Option<Metres> {
-        if weight < 1 || 65_535 < weight {
+        if !Metres::admits(weight) {
             return None;
         }
         let value = self.value.checked_add(weight)?;
@@ -39,9 +37,7 @@ impl Length for Metres {
     }
 
     fn read(code: u64) -> Option<Metres> {
-        let Ok(value) = u32::try_from(code) else {
-            return None;
-        };
+        let value = u32::try_from(code).ok()?;
         Some(Metres { value })
     }
 }

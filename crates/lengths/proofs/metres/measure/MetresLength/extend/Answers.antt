@@ -1,6 +1,7 @@
-use Rattle.std.proofs.Common.{sym, arith}
-use Rattle.lengths.specs.MetresLaws.{adds, admitted_from}
+use Rattle.std.proofs.Common.{◌≡◌, true, rules, sym}
+use Rattle.lengths.specs.Metres.{metres}
+use Rattle.lengths.specs.MetresLaws.{adds}
 use Rattle.lengths.proofs.metres.measure.MetresLength.extend.Goals as goal
 
 pub returns : goal.returns
-returns c = sym (adds c.args.self _ c.args.weight _ (admitted_from c.args.weight (omega arith) (omega arith)) c.in_ok-value.ensures.1)
+returns c = let admitted : metres.admitted c.args.weight ≡ true = search rules in sym (adds c.args.self _ c.args.weight _ admitted c.in_ok-value.ensures.1)
