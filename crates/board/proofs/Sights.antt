@@ -5,9 +5,10 @@ use Rattle.lengths.specs.Kind.{Kind, Laws}
 use Rattle.rules.specs.Rules.{Moves}
 use Rattle.rules.specs.Status.{number_of}
 use Rattle.rules.specs.declared.record.Record.{Record}
-use Rattle.rules.specs.declared.record.Status.{Status}
-use Rattle.rules.specs.declared.record.Status.TheVariants.{I, C, EB, EF}
-use Rattle.network.specs.Cables.{around, shown, root_of}
+use Rattle.rules.specs.declared.status.Status.{Status}
+use Rattle.rules.specs.declared.status.Status.TheVariants.{I, C, EB, EF}
+use Rattle.network.specs.Cables.{around, shown}
+use Rattle.rules.specs.Records.{root_of}
 use Rattle.network.specs.declared.End.{End}
 use Rattle.hall.specs.Hall.{MoveOn}
 use Rattle.hall.proofs.Verdicts.{move_of}

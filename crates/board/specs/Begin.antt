@@ -2,8 +2,7 @@
 use Rattle.std.specs.Prelude.{◌≡◌, ℕ, Bool, true, false, List, Some, None, Ok, Err, Option, Result, slice_index_or}
 use Rattle.lengths.specs.Kind.{Kind}
 use Rattle.rules.specs.declared.record.Record.{Record}
-use Rattle.network.specs.Cables.{root_of}
-use Rattle.hall.specs.Hall.{is_no_record, Numbered}
+use Rattle.rules.specs.Records.{root_of, is_no_record, Numbered}
 use Rattle.board.specs.Station.{GivenWeights, own_of}
 use Rattle.board.specs.declared.fault.EarFault.{EarFault}
 use Rattle.board.specs.declared.fault.EarFault.TheVariants.{Weight, Frame, Alien, Unwired, Unheard, Room, Ear}

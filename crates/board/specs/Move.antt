@@ -4,8 +4,8 @@ use Rattle.lengths.specs.Kind.{Kind}
 use Rattle.rules.specs.Rules.{Moves}
 use Rattle.rules.specs.declared.neighbourhood.Seen.{Seen}
 use Rattle.rules.specs.declared.record.Record.{Record}
-use Rattle.rules.specs.declared.record.Status.{Status}
-use Rattle.rules.specs.declared.record.Status.TheVariants.{I, C, EB, EF}
+use Rattle.rules.specs.declared.status.Status.{Status}
+use Rattle.rules.specs.declared.status.Status.TheVariants.{I, C, EB, EF}
 use Rattle.network.specs.declared.End.{End}
 use Rattle.hall.specs.Hall.{MoveOn}
 use Rattle.frames.specs.Record.{frame_of, code_in}

@@ -2,7 +2,7 @@
 use Rattle.std.specs.Prelude.{◌≡◌, ℕ, Bool, cond, List, [], ◌∷◌, is_some, Some, None, Option, slice_index_or}
 use Rattle.lengths.specs.Kind.{Kind}
 use Rattle.rules.specs.declared.record.Record.{Record}
-use Rattle.network.specs.Cables.{root_of}
+use Rattle.rules.specs.Records.{root_of}
 use Rattle.board.specs.declared.ports.Ports.{Ports}
 use Rattle.board.specs.declared.station.Station.{Station}
 

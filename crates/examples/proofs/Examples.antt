@@ -4,7 +4,7 @@ use native.Mathlib.Decide.{dec_lt}
 use Rattle.lengths.specs.Metres.{metres}
 use Rattle.lengths.specs.MetresLaws.{metres_laws, same}
 use Rattle.lengths.specs.GradeLaws as grades
-use Rattle.rules.specs.declared.record.Status.TheVariants.{C, EB}
+use Rattle.rules.specs.declared.status.Status.TheVariants.{C, EB}
 use Rattle.network.proofs.Settling.{quiet_settled}
 use Rattle.examples.specs.Hall.{long, keeps, rec_h, settled_h}
 use Rattle.examples.specs.Examples.{Examples, showing, two_ports}

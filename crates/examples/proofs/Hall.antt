@@ -6,8 +6,8 @@ use Rattle.lengths.specs.MetresLaws.{same}
 use Rattle.lengths.specs.declared.metres.Metres.{Metres}
 use Rattle.rules.specs.Rules.{Moves}
 use Rattle.rules.specs.declared.record.Record.{Record}
-use Rattle.rules.specs.declared.record.Verdict.{Verdict}
-use Rattle.rules.specs.declared.record.Verdict.TheVariants.{RC, REB, REF, RI, RR}
+use Rattle.rules.specs.declared.verdict.Verdict.{Verdict}
+use Rattle.rules.specs.declared.verdict.Verdict.TheVariants.{RC, REB, REF, RI, RR}
 use Rattle.network.specs.Cables.{around}
 use Rattle.network.specs.Turns.{HasVerdict, Quiet, Part}
 use Rattle.network.proofs.Views.{nothing}

@@ -8,8 +8,8 @@ use Rattle.rules.specs.Rules.{offered, abnormal, child, shows, Offers, SomeOffer
 use Rattle.rules.specs.Status.{same}
 use Rattle.rules.specs.declared.neighbourhood.Seen.{Seen}
 use Rattle.rules.specs.declared.record.Record.{Record}
-use Rattle.rules.specs.declared.record.Status.TheVariants.{I, C, EB, EF}
-use Rattle.rules.specs.declared.record.Verdict.TheVariants.{RC, REB, REF, RI, RR}
+use Rattle.rules.specs.declared.status.Status.TheVariants.{I, C, EB, EF}
+use Rattle.rules.specs.declared.verdict.Verdict.TheVariants.{RC, REB, REF, RI, RR}
 use Rattle.network.proofs.Views.{both, neither, clash}
 
 -- whether each of the first n passes the test

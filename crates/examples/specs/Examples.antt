@@ -8,10 +8,10 @@ use Rattle.lengths.specs.declared.grade.Grade.{Grade}
 use Rattle.rules.specs.Rules.{offered, Judged, Moves}
 use Rattle.rules.specs.declared.neighbourhood.Seen.{Seen}
 use Rattle.rules.specs.declared.record.Record.{Record}
-use Rattle.rules.specs.declared.record.Status.{Status}
-use Rattle.rules.specs.declared.record.Status.TheVariants.{C, EB}
-use Rattle.rules.specs.declared.record.Verdict.{Verdict}
-use Rattle.rules.specs.declared.record.Verdict.TheVariants.{RC, REB, REF, RI, RR}
+use Rattle.rules.specs.declared.status.Status.{Status}
+use Rattle.rules.specs.declared.status.Status.TheVariants.{C, EB}
+use Rattle.rules.specs.declared.verdict.Verdict.{Verdict}
+use Rattle.rules.specs.declared.verdict.Verdict.TheVariants.{RC, REB, REF, RI, RR}
 use Rattle.network.specs.Cables.{Cabled, Weighed}
 use Rattle.network.specs.Turns.{HasVerdict, Quiet, Turn}
 use Rattle.network.specs.Ways.{Settled}

@@ -4,10 +4,11 @@ use Rattle.std.proofs.Common.{lit<}
 use Rattle.lengths.specs.Metres.{metres}
 use Rattle.lengths.specs.declared.metres.Metres.{Metres}
 use Rattle.rules.specs.declared.record.Record.{Record}
-use Rattle.rules.specs.declared.record.Status.{Status}
-use Rattle.rules.specs.declared.record.Status.TheVariants.{I, C, EB, EF}
-use Rattle.rules.specs.declared.record.Verdict.{Verdict}
-use Rattle.network.specs.Cables.{end_at, root_of}
+use Rattle.rules.specs.declared.status.Status.{Status}
+use Rattle.rules.specs.declared.status.Status.TheVariants.{I, C, EB, EF}
+use Rattle.rules.specs.declared.verdict.Verdict.{Verdict}
+use Rattle.network.specs.Cables.{end_at}
+use Rattle.rules.specs.Records.{root_of}
 use Rattle.network.specs.declared.End.{End}
 
 -- a length of n metres; of a numeral `tt` shows that it is below 2^32

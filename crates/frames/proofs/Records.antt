@@ -3,8 +3,8 @@ use Rattle.std.proofs.Common.{◌≡◌, ℕ, zero, suc, ◌+◌, ◌^◌, ◌<�
 use Rattle.lengths.specs.Kind.{Kind, Laws}
 use Rattle.rules.specs.Status.{number_of}
 use Rattle.rules.specs.declared.record.Record.{Record}
-use Rattle.rules.specs.declared.record.Status.{Status}
-use Rattle.rules.specs.declared.record.Status.TheVariants.{I, C, EB, EF}
+use Rattle.rules.specs.declared.status.Status.{Status}
+use Rattle.rules.specs.declared.status.Status.TheVariants.{I, C, EB, EF}
 use Rattle.frames.specs.Record.{eight_bytes, body_of, frame_of, Fields, code_in, Unreadable, Accepted, Refused, Reads, Written}
 use Rattle.frames.specs.declared.fault.FrameFault.{FrameFault}
 use Rattle.frames.specs.declared.fault.FrameFault.TheVariants.{Short, Extent, Size, Field, Code}

@@ -3,9 +3,9 @@ use Rattle.std.proofs.Common.{◌≡◌, ℕ, ◌<◌, cond, eqb, List, length, 
 use lib.ListN.{get_or-replicate}
 use Rattle.lengths.specs.Kind.{Kind}
 use Rattle.rules.specs.declared.record.Record.{Record}
-use Rattle.rules.specs.declared.record.Verdict.{Verdict}
-use Rattle.rules.specs.declared.record.Verdict.TheVariants.{RC, REB, REF, RI, RR}
-use Rattle.network.specs.Cables.{root_of}
+use Rattle.rules.specs.declared.verdict.Verdict.{Verdict}
+use Rattle.rules.specs.declared.verdict.Verdict.TheVariants.{RC, REB, REF, RI, RR}
+use Rattle.rules.specs.Records.{root_of}
 use Rattle.hall.specs.Hall.{boards_in, count_of, nothing, Anew}
 use Rattle.hall.specs.Tables.{rec_of}
 use Rattle.hall.specs.declared.tables.Hall.{Hall}

@@ -4,7 +4,7 @@ use mathlib.Core.Logic.{by_cases}
 use native.Mathlib.Decide.{ℕ_discrete, dec_lt}
 use borrow.Author.Tests.{eqb-false}
 use Rattle.lengths.specs.Kind.{Kind}
-use Rattle.rules.specs.declared.judge.Plan.{Plan}
+use Rattle.rules.specs.declared.verdict.Plan.{Plan}
 use Rattle.sets.specs.Sets.{has, LeastFrom}
 use Rattle.sets.proofs.Bits.{has_zero, has_all, in_sixty_four, differs}
 use Rattle.hall.specs.Hall.{JudgedBoard, JudgedAgain, PlanIn, plan_of, AllPlanned, AllEnabled, SomeDisabled, TellsEnabled, EnabledSet}

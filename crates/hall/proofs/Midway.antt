@@ -4,7 +4,7 @@ use mathlib.Core.Logic.{by_cases}
 use native.Mathlib.Decide.{ℕ_discrete, dec_lt}
 use Rattle.lengths.specs.Kind.{Kind}
 use Rattle.rules.specs.declared.record.Record.{Record}
-use Rattle.rules.specs.declared.record.Verdict.{Verdict}
+use Rattle.rules.specs.declared.verdict.Verdict.{Verdict}
 use Rattle.network.specs.Turns.{Part}
 use Rattle.sets.specs.Sets.{has}
 use Rattle.hall.specs.Hall.{boards_in, far_in, records_in, counts_in, count_of, counted, nothing, MovesBy, MoveIn, Noted, Turned}

@@ -5,9 +5,9 @@ use native.Mathlib.Decide.{ℕ_discrete}
 use borrow.Author.Tests.{both_ways}
 use Rattle.lengths.specs.Kind.{Kind}
 use Rattle.rules.specs.Rules.{Enabled, TakesAt}
-use Rattle.rules.specs.declared.judge.Plan.{Plan}
+use Rattle.rules.specs.declared.verdict.Plan.{Plan}
 use Rattle.rules.specs.declared.record.Record.{Record}
-use Rattle.rules.specs.declared.record.Verdict.{Verdict}
+use Rattle.rules.specs.declared.verdict.Verdict.{Verdict}
 use Rattle.network.specs.Cables.{around, shown, end_at}
 use Rattle.network.specs.Turns.{Part}
 use Rattle.network.specs.declared.End.{End}

@@ -3,7 +3,7 @@ use Rattle.std.proofs.Common.{◌≡◌, ℕ, zero, suc, ◌+◌, ◌-◌, ◌^�
 use mathlib.Core.Logic.{by_cases}
 use borrow.Author.Tests.{both_ways, not-false}
 use Rattle.lengths.specs.Kind.{Kind, Laws}
-use Rattle.rules.specs.declared.record.Verdict.{Verdict}
+use Rattle.rules.specs.declared.verdict.Verdict.{Verdict}
 use Rattle.network.specs.Cables.{Cabled, Weighed, Adds}
 use Rattle.network.specs.Toil.{toil}
 use Rattle.network.specs.Turns as network

@@ -6,11 +6,11 @@ use borrow.Author.Tests.{both_ways}
 use Rattle.lengths.specs.Kind.{Kind}
 use Rattle.rules.specs.Rules as Rules
 use Rattle.rules.specs.Rules.{Judged, Moves, Enabled, Effect, Takes, TakesAt, LeastOffer, taken, followed, ruled, suits, offered}
-use Rattle.rules.specs.declared.judge.Plan.{Plan}
+use Rattle.rules.specs.declared.verdict.Plan.{Plan}
 use Rattle.rules.specs.declared.neighbourhood.Seen.{Seen}
 use Rattle.rules.specs.declared.record.Record.{Record}
-use Rattle.rules.specs.declared.record.Verdict.{Verdict}
-use Rattle.rules.specs.declared.record.Verdict.TheVariants.{RC, REB, REF, RI, RR}
+use Rattle.rules.specs.declared.verdict.Verdict.{Verdict}
+use Rattle.rules.specs.declared.verdict.Verdict.TheVariants.{RC, REB, REF, RI, RR}
 use Rattle.network.specs.Cables.{around}
 use Rattle.network.specs.declared.End.{End}
 use Rattle.sets.specs.Sets.{has}

@@ -2,11 +2,11 @@
 use Rattle.std.specs.Prelude.{◌≡◌, ℕ, ◌+◌, ◌-◌, ◌^◌, ◌<◌, ◌≤◌, min, Bool, true, false, cond, not, ◌||◌, [], ◌∷◌, length, is_some, Some, None, Ok, Err, Option, Result, ◌==◌, ◌≢◌, nat_le, nat_lt, slice_index_or, slice_set}
 use Rattle.lengths.specs.Kind.{Kind}
 use Rattle.rules.specs.Status.{number_of}
-use Rattle.rules.specs.declared.judge.Plan.{Plan}
+use Rattle.rules.specs.declared.verdict.Plan.{Plan}
 use Rattle.rules.specs.declared.record.Record.{Record}
-use Rattle.rules.specs.declared.record.Status.TheVariants.{I}
-use Rattle.rules.specs.declared.record.Verdict.{Verdict}
-use Rattle.rules.specs.declared.record.Verdict.TheVariants.{RC, REB, REF, RI, RR}
+use Rattle.rules.specs.declared.status.Status.TheVariants.{I}
+use Rattle.rules.specs.declared.verdict.Verdict.{Verdict}
+use Rattle.rules.specs.declared.verdict.Verdict.TheVariants.{RC, REB, REF, RI, RR}
 use Rattle.rules.specs.Rules.{Effect, TakesAt}
 use Rattle.network.specs.Cables.{Adds, Removes, around}
 use Rattle.network.specs.Turns.{HasVerdict, Turn, alive_root, used}

@@ -1,7 +1,7 @@
 -- What is promised of every run: of any list of calls on a new hall.
 use Rattle.std.specs.Prelude.{◌≡◌, ℕ, ◌+◌, ◌<◌, ◌≤◌, Bool, true, false, cond, List, [], ◌∷◌, Ok, Err, Result, ◌≢◌}
 use Rattle.lengths.specs.Kind.{Kind}
-use Rattle.rules.specs.declared.record.Verdict.{Verdict}
+use Rattle.rules.specs.declared.verdict.Verdict.{Verdict}
 use Rattle.network.specs.Turns.{Quiet, Repair, AliveRoots, alive_root, used}
 use Rattle.network.specs.Ways.{Settled}
 use Rattle.pickers.specs.Choices.{Chooses}

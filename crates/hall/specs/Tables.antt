@@ -2,7 +2,7 @@
 use Rattle.std.specs.Prelude.{◌≡◌, ℕ, ◌<◌, cond, List, [], length, None, Option, ◌==◌, slice_index_or}
 use Rattle.lengths.specs.Kind.{Kind}
 use Rattle.rules.specs.declared.record.Record.{Record}
-use Rattle.network.specs.Cables.{root_of}
+use Rattle.rules.specs.Records.{root_of}
 use Rattle.network.specs.declared.End.{End}
 
 -- the far end of the cable at port p of board b

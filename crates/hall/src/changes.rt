@@ -1,5 +1,5 @@
 ghost use Rattle.std.specs.Prelude.{◌≡◌, ℕ, ◌<◌, slice_index_or};
-ghost use Rattle.rules.specs.declared.record.Verdict.{Verdict};
+ghost use Rattle.rules.specs.declared.verdict.Verdict.{Verdict};
 ghost use Rattle.hall.specs.Tables.{rec_of};
 ghost use Rattle.hall.specs.Hall.{count_of, nothing, new_record, Makes, Wires, Cuts, Planted, ReadsRecord};
 

@@ -1,5 +1,5 @@
 ghost use Rattle.std.specs.Prelude.{◌≡◌, ◌<◌, Some, MatchBool};
-ghost use Rattle.rules.specs.declared.record.Verdict.{Verdict};
+ghost use Rattle.rules.specs.declared.verdict.Verdict.{Verdict};
 ghost use Rattle.hall.specs.Hall.{count_of, counted, Noted, AllPlanned, AllEnabled, SomeDisabled, Turned, Turns};
 
 use crate::fault::Fault;

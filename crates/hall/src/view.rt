@@ -1,5 +1,6 @@
 ghost use Rattle.std.specs.Prelude.{◌≡◌, ◌<◌, length};
-ghost use Rattle.network.specs.Cables.{around, root_of};
+ghost use Rattle.network.specs.Cables.{around};
+ghost use Rattle.rules.specs.Records.{root_of};
 ghost use Rattle.hall.specs.Tables.{far_of, rec_of};
 
 use crate::cabling::Cabling;

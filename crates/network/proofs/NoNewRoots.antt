@@ -4,9 +4,9 @@ use borrow.Author.Tests.{both_ways}
 use Rattle.lengths.specs.Kind.{Kind, Laws}
 use Rattle.rules.specs.Rules.{shows}
 use Rattle.rules.specs.declared.record.Record.{Record}
-use Rattle.rules.specs.declared.record.Status.{Status}
-use Rattle.rules.specs.declared.record.Status.TheVariants.{I, C, EB, EF}
-use Rattle.rules.specs.declared.record.Verdict.{Verdict}
+use Rattle.rules.specs.declared.status.Status.{Status}
+use Rattle.rules.specs.declared.status.Status.TheVariants.{I, C, EB, EF}
+use Rattle.rules.specs.declared.verdict.Verdict.{Verdict}
 use Rattle.network.specs.Cables.{Cabled, around}
 use Rattle.network.specs.Turns.{alive_root, Part, Turn}
 use Rattle.network.specs.declared.End.{End}

@@ -3,9 +3,10 @@ use Rattle.std.proofs.Common.{◌≡◌, ℕ, zero, suc, ◌+◌, ◌-◌, ◌<�
 use borrow.Author.Tests.{both_ways}
 use Rattle.lengths.specs.Kind.{Kind, Laws}
 use Rattle.rules.specs.declared.record.Record.{Record}
-use Rattle.rules.specs.declared.record.Verdict.{Verdict}
-use Rattle.rules.specs.declared.record.Verdict.TheVariants.{RC, REB, REF, RI, RR}
-use Rattle.network.specs.Cables.{Cabled, root_of}
+use Rattle.rules.specs.declared.verdict.Verdict.{Verdict}
+use Rattle.rules.specs.declared.verdict.Verdict.TheVariants.{RC, REB, REF, RI, RR}
+use Rattle.network.specs.Cables.{Cabled}
+use Rattle.rules.specs.Records.{root_of}
 use Rattle.network.specs.Toil.{stage}
 use Rattle.network.specs.Turns.{alive_root, AliveRoots, Part, Repair, Turn, Turns, no_turn, one_more, rank, used}
 use Rattle.network.specs.Ways.{Joined, here, along}

@@ -7,11 +7,12 @@ use Rattle.rules.specs.Rules.{child, misfit, shows, LesserOffer, ChildrenEF}
 use Rattle.rules.specs.Status.{same}
 use Rattle.rules.specs.declared.neighbourhood.Seen.{Seen}
 use Rattle.rules.specs.declared.record.Record.{Record}
-use Rattle.rules.specs.declared.record.Status.{Status}
-use Rattle.rules.specs.declared.record.Status.TheVariants.{I, C, EB, EF}
-use Rattle.rules.specs.declared.record.Verdict.{Verdict}
-use Rattle.rules.specs.declared.record.Verdict.TheVariants.{RC, REB, REF, RI, RR}
-use Rattle.network.specs.Cables.{Cabled, Weighed, around, shown, end_at, root_of}
+use Rattle.rules.specs.declared.status.Status.{Status}
+use Rattle.rules.specs.declared.status.Status.TheVariants.{I, C, EB, EF}
+use Rattle.rules.specs.declared.verdict.Verdict.{Verdict}
+use Rattle.rules.specs.declared.verdict.Verdict.TheVariants.{RC, REB, REF, RI, RR}
+use Rattle.network.specs.Cables.{Cabled, Weighed, around, shown, end_at}
+use Rattle.rules.specs.Records.{root_of}
 use Rattle.network.specs.Turns.{HasVerdict, Quiet}
 use Rattle.network.specs.Ways.{Joined, here, along, Way, at_root, onward, Least, Settled}
 use Rattle.network.specs.declared.End.{End}

@@ -3,11 +3,12 @@ use Rattle.std.proofs.Common.{◌≡◌, ℕ, suc, ◌<◌, ◌≤◌, Bool, tru
 use borrow.Author.Tests.{both_ways}
 use Rattle.lengths.specs.Kind.{Kind, Laws}
 use Rattle.rules.specs.declared.record.Record.{Record}
-use Rattle.rules.specs.declared.record.Status.{Status}
-use Rattle.rules.specs.declared.record.Status.TheVariants.{I, C, EB, EF}
-use Rattle.rules.specs.declared.record.Verdict.{Verdict}
-use Rattle.rules.specs.declared.record.Verdict.TheVariants.{RC, REB, REF, RI, RR}
-use Rattle.network.specs.Cables.{Cabled, root_of}
+use Rattle.rules.specs.declared.status.Status.{Status}
+use Rattle.rules.specs.declared.status.Status.TheVariants.{I, C, EB, EF}
+use Rattle.rules.specs.declared.verdict.Verdict.{Verdict}
+use Rattle.rules.specs.declared.verdict.Verdict.TheVariants.{RC, REB, REF, RI, RR}
+use Rattle.network.specs.Cables.{Cabled}
+use Rattle.rules.specs.Records.{root_of}
 use Rattle.network.specs.Toil.{held, stage_of, stage}
 use Rattle.network.specs.Turns.{Part, HasVerdict, Repair, Turn}
 use Rattle.network.specs.declared.End.{End}

@@ -2,10 +2,11 @@
 use Rattle.std.proofs.Common.{◌≡◌, ℕ, ◌<◌, ◌≤◌, true, cond, ◌⊎◌, Some, None, Option, refl, inl, inr, arith}
 use Rattle.lengths.specs.Kind.{Kind, Laws}
 use Rattle.rules.specs.declared.record.Record.{Record}
-use Rattle.rules.specs.declared.record.Status.TheVariants.{C}
-use Rattle.rules.specs.declared.record.Verdict.{Verdict}
-use Rattle.rules.specs.declared.record.Verdict.TheVariants.{RC, REB, REF, RI, RR}
-use Rattle.network.specs.Cables.{Cabled, root_of}
+use Rattle.rules.specs.declared.status.Status.TheVariants.{C}
+use Rattle.rules.specs.declared.verdict.Verdict.{Verdict}
+use Rattle.rules.specs.declared.verdict.Verdict.TheVariants.{RC, REB, REF, RI, RR}
+use Rattle.network.specs.Cables.{Cabled}
+use Rattle.rules.specs.Records.{root_of}
 use Rattle.network.specs.Toil.{total, stage, alive_roots, toil_of, toil}
 use Rattle.network.specs.Turns.{alive_root, Part, Repair, Turn}
 use Rattle.network.specs.declared.End.{End}

@@ -6,8 +6,8 @@ use Rattle.rules.specs.Rules.{abnormal, adrift, misfit, short, offered, shows, O
 use Rattle.rules.specs.Status.{same, number_of}
 use Rattle.rules.specs.declared.neighbourhood.Seen.{Seen}
 use Rattle.rules.specs.declared.record.Record.{Record}
-use Rattle.rules.specs.declared.record.Status.{Status}
-use Rattle.rules.specs.declared.record.Status.TheVariants.{I, C, EB, EF}
+use Rattle.rules.specs.declared.status.Status.{Status}
+use Rattle.rules.specs.declared.status.Status.TheVariants.{I, C, EB, EF}
 use Rattle.network.specs.Cables.{Cabled, around, shown, end_at}
 use Rattle.network.specs.Turns.{alive_root}
 use Rattle.network.specs.declared.End.{End}

@@ -3,7 +3,6 @@ use Rattle.std.specs.Prelude.{◌≡◌, ℕ, ◌<◌, true, Some, None, Option,
 use Rattle.lengths.specs.Kind.{Kind}
 use Rattle.rules.specs.declared.neighbourhood.Seen.{Seen}
 use Rattle.rules.specs.declared.record.Record.{Record}
-use Rattle.rules.specs.declared.record.Status.TheVariants.{C}
 use Rattle.network.specs.declared.End.{End}
 
 -- this end of a cable, as it is seen from the other
@@ -29,10 +28,6 @@ shown rec (Some e) = Some (record { status = (rec e.board).status; length = (rec
 -- what board b sees
 abbrev pub around : {V : Type 0} → (ℕ → ℕ → Option End) → (ℕ → Record V) → ℕ → ℕ → Option (Seen V)
 around far rec b p = shown rec (far b p)
-
--- the root's record: always C, 255 and the start
-abbrev pub root_of : {V : Type 0} → Kind V → Record V
-root_of k = record { status = C; par = 255; length = k.start }
 
 -- a cable of weight w is added between port p of board a and port q of board b
 pub record Adds (far : ℕ → ℕ → Option End) (a p b q w : ℕ) (after : ℕ → ℕ → Option End) : Type 0 where

@@ -3,8 +3,8 @@ use Rattle.std.specs.Prelude.{ℕ, zero, suc, ◌+◌, ◌-◌, ◌*◌, ◌^◌
 use Rattle.lengths.specs.Kind.{Kind}
 use Rattle.rules.specs.Rules.{abnormal}
 use Rattle.rules.specs.declared.record.Record.{Record}
-use Rattle.rules.specs.declared.record.Status.{Status}
-use Rattle.rules.specs.declared.record.Status.TheVariants.{I, C, EB, EF}
+use Rattle.rules.specs.declared.status.Status.{Status}
+use Rattle.rules.specs.declared.status.Status.TheVariants.{I, C, EB, EF}
 use Rattle.network.specs.Cables.{around}
 use Rattle.network.specs.Turns.{alive_root}
 use Rattle.network.specs.declared.End.{End}

@@ -4,9 +4,9 @@ use Rattle.lengths.specs.Kind.{Kind}
 use Rattle.rules.specs.Rules.{abnormal, Enabled, Effect}
 use Rattle.rules.specs.Status.{same}
 use Rattle.rules.specs.declared.record.Record.{Record}
-use Rattle.rules.specs.declared.record.Status.TheVariants.{C, EB}
-use Rattle.rules.specs.declared.record.Verdict.{Verdict}
-use Rattle.rules.specs.declared.record.Verdict.TheVariants.{RC, REB, REF, RI, RR}
+use Rattle.rules.specs.declared.status.Status.TheVariants.{C, EB}
+use Rattle.rules.specs.declared.verdict.Verdict.{Verdict}
+use Rattle.rules.specs.declared.verdict.Verdict.TheVariants.{RC, REB, REF, RI, RR}
 use Rattle.sets.specs.Counts.{Count}
 use Rattle.network.specs.Cables.{around}
 use Rattle.network.specs.Ways.{Joined}

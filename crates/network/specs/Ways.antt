@@ -2,7 +2,7 @@
 use Rattle.std.specs.Prelude.{◌≡◌, ℕ, ◌<◌, false, Some, Option, ◌≢◌}
 use Rattle.lengths.specs.Kind.{Kind}
 use Rattle.rules.specs.declared.record.Record.{Record}
-use Rattle.rules.specs.declared.record.Status.TheVariants.{I, C}
+use Rattle.rules.specs.declared.status.Status.TheVariants.{I, C}
 use Rattle.network.specs.declared.End.{End}
 
 -- a chain of cables from board a to board b: b is in a's component

@@ -2,13 +2,14 @@
 use Rattle.std.specs.Prelude.{◌≡◌, ℕ, ◌<◌, Bool, true, false, cond, not, ◌&&◌, ◌||◌, ◌⊎◌, Some, None, Option}
 use Rattle.lengths.specs.Kind.{Kind}
 use Rattle.rules.specs.Status.{same}
-use Rattle.rules.specs.declared.judge.Plan.{Plan}
 use Rattle.rules.specs.declared.neighbourhood.Seen.{Seen}
 use Rattle.rules.specs.declared.record.Record.{Record}
-use Rattle.rules.specs.declared.record.Status.{Status}
-use Rattle.rules.specs.declared.record.Status.TheVariants.{I, C, EB, EF}
-use Rattle.rules.specs.declared.record.Verdict.{Verdict}
-use Rattle.rules.specs.declared.record.Verdict.TheVariants.{RC, REB, REF, RI, RR}
+use Rattle.rules.specs.declared.status.Status.{Status}
+use Rattle.rules.specs.declared.status.Status.TheVariants.{I, C, EB, EF}
+use Rattle.rules.specs.declared.verdict.Plan.{Plan}
+use Rattle.rules.specs.declared.verdict.Plan.TheVariants as plan
+use Rattle.rules.specs.declared.verdict.Verdict.{Verdict}
+use Rattle.rules.specs.declared.verdict.Verdict.TheVariants.{RC, REB, REF, RI, RR}
 
 -- what a port that shows this offers: the extension of a C neighbour's length
 abbrev pub offered : {V : Type 0} → Kind V → Option (Seen V) → Option V
@@ -116,22 +117,30 @@ abbrev pub Moves : {V : Type 0} → Kind V → Record V → (ℕ → Option (See
 Moves k own near None next = Judged k own near None × (next ≡ own)
 Moves k own near (Some v) next = Judged k own near (Some v) × Effect k own near v next
 
--- a rule that takes an offer takes the least one, which comes in at this port
-abbrev pub TakesAt : {V : Type 0} → Kind V → (ℕ → Option (Seen V)) → Verdict → ℕ → Type 0
-TakesAt k near RC p = LeastAt k near p
-TakesAt k near REB p = Unit {0}
-TakesAt k near REF p = Unit {0}
-TakesAt k near RI p = Unit {0}
-TakesAt k near RR p = LeastAt k near p
+-- a plan's rule
+abbrev pub rule_of : Plan → Verdict
+rule_of (plan.RC p) = RC
+rule_of plan.REB = REB
+rule_of plan.REF = REF
+rule_of plan.RI = RI
+rule_of (plan.RR p) = RR
+
+-- a plan to take an offer takes the least one, which comes in at its port
+abbrev pub TakesLeast : {V : Type 0} → Kind V → (ℕ → Option (Seen V)) → Plan → Type 0
+TakesLeast k near (plan.RC p) = LeastAt k near p
+TakesLeast k near plan.REB = Unit {0}
+TakesLeast k near plan.REF = Unit {0}
+TakesLeast k near plan.RI = Unit {0}
+TakesLeast k near (plan.RR p) = LeastAt k near p
 
 -- a plan to join again by the least offer
 abbrev pub Joins : {V : Type 0} → Kind V → (ℕ → Option (Seen V)) → Plan → Type 0
-Joins k near p = (p.rule ≡ RR) × LeastAt k near p.port
+Joins k near p = (rule_of p ≡ RR) × TakesLeast k near p
 
 -- how a board would move: by its verdict, and no way where it has none
 abbrev pub Plans : {V : Type 0} → Kind V → Record V → (ℕ → Option (Seen V)) → Option Plan → Type 0
 Plans k own near None = Judged k own near None
-Plans k own near (Some p) = Judged k own near (Some p.rule) × TakesAt k near p.rule p.port
+Plans k own near (Some p) = Judged k own near (Some (rule_of p)) × TakesLeast k near p
 
 -- the record with what is offered at port p taken
 abbrev pub taken_at : {V : Type 0} → Record V → ℕ → Option V → Record V
@@ -149,15 +158,15 @@ suits REF s = same s EB
 suits RI s = same s EF
 suits RR s = same s I || same s EF
 
--- the record after a rule, which takes what port p offers where it takes an offer
-abbrev pub ruled : {V : Type 0} → Kind V → Record V → (ℕ → Option (Seen V)) → Verdict → ℕ → Record V
-ruled k own near RC p = taken k own near p
-ruled k own near REB p = restated own EB
-ruled k own near REF p = restated own EF
-ruled k own near RI p = restated own I
-ruled k own near RR p = taken k own near p
+-- the record after a plan's rule, which takes what its port offers where it takes an offer
+abbrev pub ruled : {V : Type 0} → Kind V → Record V → (ℕ → Option (Seen V)) → Plan → Record V
+ruled k own near (plan.RC p) = taken k own near p
+ruled k own near plan.REB = restated own EB
+ruled k own near plan.REF = restated own EF
+ruled k own near plan.RI = restated own I
+ruled k own near (plan.RR p) = taken k own near p
 
 -- the record of a board that follows a plan; it stays where there is none, or one that is not for its status
 abbrev pub followed : {V : Type 0} → Kind V → Record V → (ℕ → Option (Seen V)) → Option Plan → Record V
 followed k own near None = own
-followed k own near (Some p) = cond (suits p.rule own.status) (ruled k own near p.rule p.port) own
+followed k own near (Some p) = cond (suits (rule_of p) own.status) (ruled k own near p) own

@@ -1,7 +1,8 @@
 -- Statuses by their numbers.
-use Rattle.std.specs.Prelude.{ℕ, Bool, ◌==◌}
-use Rattle.rules.specs.declared.record.Status.{Status}
-use Rattle.rules.specs.declared.record.Status.TheVariants.{I, C, EB, EF}
+use Rattle.std.specs.Prelude.{◌≡◌, ℕ, ◌≤◌, Bool, ◌==◌, Result, MatchResult}
+use Rattle.rules.specs.declared.status.NoStatus.{NoStatus}
+use Rattle.rules.specs.declared.status.Status.{Status}
+use Rattle.rules.specs.declared.status.Status.TheVariants.{I, C, EB, EF}
 
 -- the number that stands for a status in a frame or a script
 abbrev pub number_of : Status → ℕ
@@ -13,3 +14,7 @@ number_of EF = 3
 -- whether two statuses are the same
 abbrev pub same : Status → Status → Bool
 same s t = number_of s == number_of t
+
+-- the status of a number, and none from 4 on
+abbrev pub NumberOf : ℕ → Result Status NoStatus → Type 0
+NumberOf n r = MatchResult r (λ s. number_of s ≡ n) (λ _. 4 ≤ n)

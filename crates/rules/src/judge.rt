@@ -1,18 +1,13 @@
 ghost use Rattle.std.specs.Prelude.{◌≡◌, Bool, true, false, Decides, MatchOption};
-ghost use Rattle.rules.specs.Rules.{misfit, abnormal, child, shows, ChildrenEF, SomeOffer, LesserOffer, LeastBelow, Joins, Plans};
-ghost use Rattle.rules.specs.declared.record.Status.TheVariants.{C};
+ghost use Rattle.rules.specs.Rules.{misfit, abnormal, child, shows, ChildrenEF, SomeOffer, LesserOffer, LeastBelow, Joins, Judged, Plans};
+ghost use Rattle.rules.specs.declared.status.Status.TheVariants.{C};
 
+use crate::board::Board;
 use crate::neighbourhood::{Neighbourhood, Seen};
 use crate::offers::least_offer;
-use crate::record::{Record, Status, Verdict};
+use crate::status::Status;
+use crate::verdict::{Plan, Verdict};
 use lengths::Length;
-
-// The rule by which a board would move, and the port whose offer it would take: any, where the rule takes none.
-#[derive(Clone, Copy)]
-pub struct Plan {
-    pub rule: Verdict,
-    pub port: u8,
-}
 
 // Whether a board of this status and length does not fit below a board of status `above` and length `from` over the cable.
 fn misfits<L: Length>(status: Status, length: L, above: Status, from: L, weight: u32) -> bool
@@ -21,127 +16,108 @@ fn misfits<L: Length>(status: Status, length: L, above: Status, from: L, weight:
     let Some(reach) = from.extend(weight) else {
         return true;
     };
-    above.is(Status::I) || length.less(reach) || !status.is(above) && !above.is(Status::EB)
+    above == Status::I || length < reach || status != above && above != Status::EB
 }
 
-// Whether a board other than the root is an abnormal root: not I, and it does not fit below the board that its par leads to.
-pub fn abnormal_root<L: Length, N: Neighbourhood<L>>(own: Record<L>, near: &N) -> bool
-    ensures { result ≡ abnormal L.Length.meaning own (N.Neighbourhood.seen near.now) }
-{
-    if own.status.is(Status::I) {
-        return false;
+impl<'n, L: Length, N: Neighbourhood<L>> Board<'n, L, N> {
+    // Whether it is an abnormal root: not I, and it does not fit below the board that its par leads to.
+    pub fn is_abnormal_root(&self) -> bool
+        ensures { result ≡ abnormal L.Length.meaning self.now.own (N.Neighbourhood.seen self.now.near.now) }
+    {
+        let own = self.own;
+        if own.status == Status::I {
+            return false;
+        }
+        let Some(up) = self.near.at(own.par) else {
+            return true;
+        };
+        misfits(own.status, own.length, up.status, up.length, up.weight)
     }
-    let Some(up) = near.at(own.par) else {
-        return true;
-    };
-    misfits(own.status, own.length, up.status, up.length, up.weight)
-}
 
-// Whether every child is EF.
-fn children_ef<L: Length, N: Neighbourhood<L>>(own: Record<L>, near: &N) -> bool
-    ensures { Decides result (ChildrenEF L.Length.meaning own (N.Neighbourhood.seen near.now)) }
-{
-    for port in 0..8u8 {
-        if let Some(s) = near.at(port) {
-            if is_child(own, s) && !s.status.is(Status::EF) {
-                return false;
+    // Whether the neighbour that a port shows is a child: its par names this cable, it is not I, and it fits below.
+    fn is_parent_of(&self, s: Seen<L>) -> bool
+        ensures { result ≡ child L.Length.meaning self.now.own s }
+    {
+        s.named
+            && s.status != Status::I
+            && !misfits(
+                s.status,
+                s.length,
+                self.own.status,
+                self.own.length,
+                s.weight,
+            )
+    }
+
+    // Whether every child is EF.
+    fn children_ef(&self) -> bool
+        ensures { Decides result (ChildrenEF L.Length.meaning self.now.own (N.Neighbourhood.seen self.now.near.now)) }
+    {
+        for port in 0..8u8 {
+            if let Some(s) = self.near.at(port) {
+                if self.is_parent_of(s) && s.status != Status::EF {
+                    return false;
+                }
             }
         }
+        true
     }
-    true
-}
 
-// Whether the neighbour that a port shows is a child: its par names this cable, it is not I, and it fits below.
-fn is_child<L: Length>(own: Record<L>, s: Seen<L>) -> bool
-    ensures { result ≡ child L.Length.meaning own s }
-{
-    s.named
-        && !s.status.is(Status::I)
-        && !misfits(s.status, s.length, own.status, own.length, s.weight)
-}
-
-// The port of the least offer, where that is less than the board's length.
-fn lesser_offer<L: Length, N: Neighbourhood<L>>(own: Record<L>, near: &N) -> Option<u8>
-    ensures { MatchOption result (LesserOffer L.Length.meaning (N.Neighbourhood.seen near.now) own.length → ⊥) (LeastBelow L.Length.meaning (N.Neighbourhood.seen near.now) own.length) }
-{
-    let (port, length) = least_offer(near)?;
-    if length.less(own.length) {
-        Some(port)
-    } else {
-        None
+    // The port of the least offer, where that is less than the board's length.
+    fn lesser_offer(&self) -> Option<u8>
+        ensures { MatchOption result (LesserOffer L.Length.meaning (N.Neighbourhood.seen self.now.near.now) self.now.own.length → ⊥) (LeastBelow L.Length.meaning (N.Neighbourhood.seen self.now.near.now) self.now.own.length) }
+    {
+        let (port, length) = least_offer(self.near)?;
+        (length < self.own.length).then_some(port)
     }
-}
 
-// Whether the board at the par has this status.
-fn par_shows<L: Length, N: Neighbourhood<L>>(own: Record<L>, near: &N, status: Status) -> bool
-    ensures { result ≡ shows status (N.Neighbourhood.seen near.now own.par) }
-{
-    match near.at(own.par) {
-        Some(s) => s.status.is(status),
-        None => false,
-    }
-}
-
-// A plan that takes the least offer, where a port offers.
-fn joining<L: Length, N: Neighbourhood<L>>(near: &N) -> Option<Plan>
-    ensures { MatchOption result (SomeOffer L.Length.meaning (N.Neighbourhood.seen near.now) → ⊥) (Joins L.Length.meaning (N.Neighbourhood.seen near.now)) }
-{
-    let (port, _) = least_offer(near)?;
-    Some(Plan {
-        rule: Verdict::RR,
-        port,
-    })
-}
-
-// The plan of a C board.
-fn decide_correct<L: Length, N: Neighbourhood<L>>(own: Record<L>, near: &N) -> Option<Plan>
-    requires { own.status ≡ C }
-    ensures { Plans L.Length.meaning own (N.Neighbourhood.seen near.now) result }
-{
-    if let Some(port) = lesser_offer(own, near) {
-        return Some(Plan {
-            rule: Verdict::RC,
-            port,
-        });
-    }
-    if abnormal_root(own, near) || par_shows(own, near, Status::EB) {
-        Some(Plan {
-            rule: Verdict::REB,
-            port: 0,
-        })
-    } else {
-        None
-    }
-}
-
-// How a board other than the root would move: by the rule that is enabled, if one is.
-pub fn decide<L: Length, N: Neighbourhood<L>>(own: Record<L>, near: &N) -> Option<Plan>
-    ensures { Plans L.Length.meaning own (N.Neighbourhood.seen near.now) result }
-{
-    match own.status {
-        Status::C => decide_correct(own, near),
-        Status::EB => {
-            if children_ef(own, near) {
-                Some(Plan {
-                    rule: Verdict::REF,
-                    port: 0,
-                })
-            } else {
-                None
-            }
+    // Whether the board at the par has this status.
+    fn par_shows(&self, status: Status) -> bool
+        ensures { result ≡ shows status (N.Neighbourhood.seen self.now.near.now self.now.own.par) }
+    {
+        match self.near.at(self.own.par) {
+            Some(s) => s.status == status,
+            None => false,
         }
-        Status::EF => {
-            if !abnormal_root(own, near) {
-                return None;
-            }
-            match joining(near) {
-                Some(plan) => Some(plan),
-                None => Some(Plan {
-                    rule: Verdict::RI,
-                    port: 0,
-                }),
-            }
+    }
+
+    // A plan that takes the least offer, where a port offers.
+    fn joining(&self) -> Option<Plan>
+        ensures { MatchOption result (SomeOffer L.Length.meaning (N.Neighbourhood.seen self.now.near.now) → ⊥) (Joins L.Length.meaning (N.Neighbourhood.seen self.now.near.now)) }
+    {
+        let (port, _) = least_offer(self.near)?;
+        Some(Plan::RR { port })
+    }
+
+    // The plan of a C board.
+    fn plan_correct(&self) -> Option<Plan>
+        requires { self.now.own.status ≡ C }
+        ensures { Plans L.Length.meaning self.now.own (N.Neighbourhood.seen self.now.near.now) result }
+    {
+        if let Some(port) = self.lesser_offer() {
+            return Some(Plan::RC { port });
         }
-        Status::I => joining(near),
+        (self.is_abnormal_root() || self.par_shows(Status::EB)).then_some(Plan::REB)
+    }
+
+    // How it would move: by the rule that is enabled, if one is.
+    pub fn plan(&self) -> Option<Plan>
+        ensures { Plans L.Length.meaning self.now.own (N.Neighbourhood.seen self.now.near.now) result }
+    {
+        match self.own.status {
+            Status::C => self.plan_correct(),
+            Status::EB => self.children_ef().then_some(Plan::REF),
+            Status::EF if !self.is_abnormal_root() => None,
+            Status::EF => self.joining().or(Some(Plan::RI)),
+            Status::I => self.joining(),
+        }
+    }
+
+    // The rule that is enabled, if one is.
+    pub fn verdict(&self) -> Option<Verdict>
+        ensures { Judged L.Length.meaning self.now.own (N.Neighbourhood.seen self.now.near.now) result }
+    {
+        let plan = self.plan()?;
+        Some(plan.verdict())
     }
 }

@@ -1,7 +1,7 @@
 ghost use Rattle.std.specs.Prelude.{◌≡◌, ℕ, Option};
 ghost use Rattle.rules.specs.declared.neighbourhood.Seen.{Seen};
 
-use crate::record::Status;
+use crate::status::Status;
 
 // What a cabled port shows: the neighbour's status and length, the cable's weight,
 // and whether the neighbour's par names this cable.

@@ -2,7 +2,7 @@ ghost use Rattle.std.specs.Prelude.{◌≡◌, MatchOption};
 ghost use Rattle.rules.specs.Rules.{offered, SomeOffer, LeastOffer};
 
 use crate::neighbourhood::Neighbourhood;
-use crate::record::Status;
+use crate::status::Status;
 use lengths::Length;
 
 // What the port offers: a C neighbour's length, extended over the cable.
@@ -10,7 +10,7 @@ pub(crate) fn offer<L: Length, N: Neighbourhood<L>>(near: &N, port: u8) -> Optio
     ensures { result ≡ offered L.Length.meaning (N.Neighbourhood.seen near.now port) }
 {
     let neighbour = near.at(port)?;
-    if neighbour.status.is(Status::C) {
+    if neighbour.status == Status::C {
         neighbour.length.extend(neighbour.weight)
     } else {
         None
@@ -25,7 +25,7 @@ pub fn least_offer<L: Length, N: Neighbourhood<L>>(near: &N) -> Option<(u8, L)>
     for port in 0..8u8 {
         if let Some(length) = offer(near, port) {
             best = match best {
-                Some((p, l)) if !length.less(l) => Some((p, l)),
+                Some((p, l)) if length >= l => Some((p, l)),
                 _ => Some((port, length)),
             };
         }

@@ -6,8 +6,8 @@ use borrow.Author.Tests.{both_ways}
 use Rattle.lengths.specs.Kind.{Kind, Laws}
 use Rattle.rules.specs.Rules.{Enabled, Effect}
 use Rattle.rules.specs.declared.record.Record.{Record}
-use Rattle.rules.specs.declared.record.Verdict.{Verdict}
-use Rattle.rules.specs.declared.record.Verdict.TheVariants.{RC, REB, REF, RI, RR}
+use Rattle.rules.specs.declared.verdict.Verdict.{Verdict}
+use Rattle.rules.specs.declared.verdict.Verdict.TheVariants.{RC, REB, REF, RI, RR}
 use Rattle.network.specs.Cables.{around, shown, Adds, Removes}
 use Rattle.network.specs.Turns.{Part}
 use Rattle.network.specs.declared.End.{End}
@@ -17,7 +17,8 @@ use Rattle.sets.specs.Sets.{has}
 use Rattle.sets.proofs.Bits.{has_zero, same_members, same_test}
 use Rattle.hall.specs.Faults.{refusal}
 use Rattle.hall.specs.Tables.{far_of}
-use Rattle.hall.specs.Hall.{boards_in, far_in, records_in, counts_in, count_of, counted, Makes, Anew, Wires, wire_checks, Cuts, cut_checks, Planted, plant_checks, Numbered, VerdictIn, IsVerdict, MovesBy, EnabledSet, Turned, Turns, TurnFault, beyond, nobody, disabled, AllEnabled, Plants, Looks, Tallies}
+use Rattle.hall.specs.Hall.{boards_in, far_in, records_in, counts_in, count_of, counted, Makes, Anew, Wires, wire_checks, Cuts, cut_checks, Planted, plant_checks, VerdictIn, IsVerdict, MovesBy, EnabledSet, Turned, Turns, TurnFault, beyond, nobody, disabled, AllEnabled, Plants, Looks, Tallies}
+use Rattle.rules.specs.Records.{Numbered}
 use Rattle.hall.specs.Runs.{Settles}
 use Rattle.hall.specs.Runs.Settles.{at_rest, asked}
 use Rattle.hall.specs.declared.fault.Fault.{Fault}

@@ -8,10 +8,10 @@ use Rattle.rules.specs.Rules.{LeastOffer, Enabled, Takes, Effect}
 use Rattle.rules.specs.Status.{same}
 use Rattle.rules.specs.declared.neighbourhood.Seen.{Seen}
 use Rattle.rules.specs.declared.record.Record.{Record}
-use Rattle.rules.specs.declared.record.Status.{Status}
-use Rattle.rules.specs.declared.record.Status.TheVariants.{I, C, EB, EF}
-use Rattle.rules.specs.declared.record.Verdict.{Verdict}
-use Rattle.rules.specs.declared.record.Verdict.TheVariants.{RC, REB, REF, RI, RR}
+use Rattle.rules.specs.declared.status.Status.{Status}
+use Rattle.rules.specs.declared.status.Status.TheVariants.{I, C, EB, EF}
+use Rattle.rules.specs.declared.verdict.Verdict.{Verdict}
+use Rattle.rules.specs.declared.verdict.Verdict.TheVariants.{RC, REB, REF, RI, RR}
 use Rattle.network.proofs.Views.{clash}
 
 module _ {V : Type 0} {k : Kind V} (laws : Laws k) (own : Record V) (near : ℕ → Option (Seen V)) where

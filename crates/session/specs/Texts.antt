@@ -1,10 +1,10 @@
 -- The lines of a transcript.
 use Rattle.std.specs.Prelude.{◌≡◌, ℕ, ◌+◌, ◌≤◌, List, [], ◌∷◌, ◌++◌, Some, None, Ok, codes, decimal, Option}
 use Rattle.lengths.specs.Kind.{Kind}
-use Rattle.rules.specs.declared.record.Status.{Status}
-use Rattle.rules.specs.declared.record.Status.TheVariants.{I, C, EB, EF}
-use Rattle.rules.specs.declared.record.Verdict.{Verdict}
-use Rattle.rules.specs.declared.record.Verdict.TheVariants.{RC, REB, REF, RI, RR}
+use Rattle.rules.specs.declared.status.Status.{Status}
+use Rattle.rules.specs.declared.status.Status.TheVariants.{I, C, EB, EF}
+use Rattle.rules.specs.declared.verdict.Verdict.{Verdict}
+use Rattle.rules.specs.declared.verdict.Verdict.TheVariants.{RC, REB, REF, RI, RR}
 use Rattle.hall.specs.Hall.{boards_in, count_of, Looks}
 use Rattle.hall.specs.declared.questions.Look.{Look}
 use Rattle.hall.specs.declared.tables.Hall.{Hall}

@@ -1,6 +1,6 @@
 use Rattle.std.proofs.Common.{ap, ◌∙◌}
 use Rattle.rules.specs.declared.record.Record.{Record}
-use Rattle.rules.specs.declared.record.Status.TheVariants.{I}
+use Rattle.rules.specs.declared.status.Status.TheVariants.{I}
 use Rattle.hall.proofs.Beginning.{all_alike}
 use Rattle.hall.proofs.changes.isolated.Goals as goal
 

@@ -1,6 +1,6 @@
 use Rattle.std.proofs.Common.{◌≡◌, ℕ, ◌≤◌, false, Some, Option, sym, refl, ◌∙◌, subst}
 use Rattle.rules.specs.Rules.{followed}
-use Rattle.rules.specs.declared.judge.Plan.{Plan}
+use Rattle.rules.specs.declared.verdict.Plan.{Plan}
 use Rattle.network.specs.Cables.{around}
 use Rattle.sets.specs.Sets.{has, LeastFrom}
 use Rattle.hall.specs.Hall.{far_in, records_in, PlanIn}

@@ -1,5 +1,5 @@
 use Rattle.std.proofs.Common.{◌≡◌, length, sym, refl, subst, arith, rules}
-use Rattle.hall.specs.Hall.{Numbered}
+use Rattle.rules.specs.Records.{Numbered}
 use Rattle.hall.proofs.Beginning.{anew, put_record, other_record}
 use Rattle.hall.proofs.tables.Hall.plant.Goals as goal
 

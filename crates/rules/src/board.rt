@@ -1,0 +1,8 @@
+use crate::record::Record;
+
+// A board other than the root, as the rules know it: its record, and what it sees of its neighbours.
+#[derive_where(Clone, Copy; L)]
+pub struct Board<'n, L, N> {
+    pub own: Record<L>,
+    pub near: &'n N,
+}
