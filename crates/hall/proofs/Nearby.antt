@@ -4,7 +4,7 @@ use mathlib.Core.Logic.{by_cases}
 use native.Mathlib.Decide.{ℕ_discrete}
 use borrow.Author.Tests.{both_ways}
 use Rattle.lengths.specs.Kind.{Kind}
-use Rattle.rules.specs.Rules.{Enabled, TakesAt}
+use Rattle.rules.specs.Rules.{Enabled, rule_of, TakesLeast}
 use Rattle.rules.specs.declared.verdict.Plan.{Plan}
 use Rattle.rules.specs.declared.record.Record.{Record}
 use Rattle.rules.specs.declared.verdict.Verdict.{Verdict}
@@ -112,8 +112,8 @@ module _ {V : Type 0} (k : Kind V) (old new : Hall V) (moved near : ℕ) (turned
   same_plan : (b : ℕ) → has near b ≡ false → (p : Option Plan) → PlanIn k old b p → PlanIn k new b p
   same_plan b out None x = λ v y. x v (subst (λ (c : Cabling). b < c.n) turned.cabling y.0, y.1, subst (λ (P : Type 0). P) (same_enabled b out v) y.2)
   same_plan b out (Some p) x = (
-    (subst (λ (c : Cabling). b < c.n) (sym turned.cabling) x.0.0, x.0.1, subst (λ (P : Type 0). P) (sym (same_enabled b out p.rule)) x.0.2),
-    subst (λ (P : Type 0). P) (sym (λ i. TakesAt k (λ q. same_view b out q i) p.rule p.port)) x.1,
+    (subst (λ (c : Cabling). b < c.n) (sym turned.cabling) x.0.0, x.0.1, subst (λ (P : Type 0). P) (sym (same_enabled b out (rule_of p))) x.0.2),
+    subst (λ (P : Type 0). P) (sym (λ i. TakesLeast k (λ q. same_view b out q i) p)) x.1,
   )
 
   -- the enabled boards are those that were, and of those near the ones that are now

@@ -5,8 +5,9 @@ use native.Mathlib.Decide.{dec_lt}
 use borrow.Author.Tests.{both_ways}
 use Rattle.lengths.specs.Kind.{Kind}
 use Rattle.rules.specs.Rules as Rules
-use Rattle.rules.specs.Rules.{Judged, Moves, Enabled, Effect, Takes, TakesAt, LeastOffer, taken, followed, ruled, suits, offered}
+use Rattle.rules.specs.Rules.{rule_of, Judged, Moves, Enabled, Effect, Takes, TakesLeast, LeastOffer, taken, followed, ruled, suits, offered}
 use Rattle.rules.specs.declared.verdict.Plan.{Plan}
+use Rattle.rules.specs.declared.verdict.Plan.TheVariants as plan
 use Rattle.rules.specs.declared.neighbourhood.Seen.{Seen}
 use Rattle.rules.specs.declared.record.Record.{Record}
 use Rattle.rules.specs.declared.verdict.Verdict.{Verdict}
@@ -49,7 +50,7 @@ all_told k h s small tells = record {
 pub plan_tells : {V : Type 0} (k : Kind V) (h : Hall V) (b : ℕ) (r : Option Plan) (t : Bool) → t ≡ is_some r → PlanIn k h b r → TellsEnabled k h b t
 plan_tells k h b None true e j = absurd (both_ways true e refl)
 plan_tells k h b None false e j = j
-plan_tells k h b (Some p) true e j = (p.rule, j.0)
+plan_tells k h b (Some p) true e j = (rule_of p, j.0)
 plan_tells k h b (Some p) false e j = absurd (both_ways false refl e)
 
 pub plan_of_board : {V : Type 0} (k : Kind V) (h : Hall V) (b : ℕ) → b < boards_in h → (b ≡ 0 → ⊥) → (own : Record V) → own ≡ records_in k h b → (r : Option Plan) → Rules.Plans k own (around (far_in h) (records_in k h) b) r → PlanIn k h b r
@@ -70,19 +71,19 @@ suited k own near RR x = ⊎_elim (λ i. ap (suits RR) i) (λ e. ap (suits RR) e
 takes : {V : Type 0} (k : Kind V) (own : Record V) (near : ℕ → Option (Seen V)) (p : ℕ) (l : V) → LeastOffer k near p l → Takes k near (taken k own near p)
 takes k own near p l least = subst (λ (r : Record _). Takes k near r) (sym (ap (Rules.taken_at own p) least.offers.offer)) (refl, least)
 
-ruled_so : {V : Type 0} (k : Kind V) (own : Record V) (near : ℕ → Option (Seen V)) (v : Verdict) (p : ℕ) → TakesAt k near v p → Effect k own near v (ruled k own near v p)
-ruled_so k own near RC p t = takes k own near p t.length t.least
-ruled_so k own near REB p t = refl
-ruled_so k own near REF p t = refl
-ruled_so k own near RI p t = refl
-ruled_so k own near RR p t = takes k own near p t.length t.least
+ruled_so : {V : Type 0} (k : Kind V) (own : Record V) (near : ℕ → Option (Seen V)) (p : Plan) → TakesLeast k near p → Effect k own near (rule_of p) (ruled k own near p)
+ruled_so k own near (plan.RC p) t = takes k own near p t.length t.least
+ruled_so k own near plan.REB t = refl
+ruled_so k own near plan.REF t = refl
+ruled_so k own near plan.RI t = refl
+ruled_so k own near (plan.RR p) t = takes k own near p t.length t.least
 
 -- who follows a plan moves by its verdict
-pub follows_plan : {V : Type 0} (k : Kind V) (n : ℕ) (far : ℕ → ℕ → Option End) (rec : ℕ → Record V) (b : ℕ) (p : Plan) (next : Record V) → PlanOn k n far rec b (Some p) → next ≡ followed k (rec b) (around far rec b) (Some p) → MoveOn k n far rec b (Some p.rule) next
+pub follows_plan : {V : Type 0} (k : Kind V) (n : ℕ) (far : ℕ → ℕ → Option End) (rec : ℕ → Record V) (b : ℕ) (p : Plan) (next : Record V) → PlanOn k n far rec b (Some p) → next ≡ followed k (rec b) (around far rec b) (Some p) → MoveOn k n far rec b (Some (rule_of p)) next
 follows_plan {V} k n far rec b p next plan e =
     let near = around far rec b in
-    let so : next ≡ ruled k (rec b) near p.rule p.port = e ∙ ap (λ t. cond t (ruled k (rec b) near p.rule p.port) (rec b)) (suited k (rec b) near p.rule plan.0.2) in
-    (plan.0, subst (λ (r : Record V). Effect k (rec b) near p.rule r) (sym so) (ruled_so k (rec b) near p.rule p.port plan.1))
+    let so : next ≡ ruled k (rec b) near p = e ∙ ap (λ t. cond t (ruled k (rec b) near p) (rec b)) (suited k (rec b) near (rule_of p) plan.0.2) in
+    (plan.0, subst (λ (r : Record V). Effect k (rec b) near (rule_of p) r) (sym so) (ruled_so k (rec b) near p plan.1))
 
 on_these : {V : Type 0} (k : Kind V) (n : ℕ) (far : ℕ → ℕ → Option End) (rec : ℕ → Record V) (b : ℕ) → b < n → (b ≡ 0 → ⊥) → (r : Option Verdict) (next : Record V) → Moves k (rec b) (around far rec b) r next → MoveOn k n far rec b r next
 on_these k n far rec b lt ne None next m = (λ v x. m.0 v x.2, m.1)

@@ -1,13 +1,13 @@
 -- What each call of a hall answers and does.
-use Rattle.std.specs.Prelude.{◌≡◌, ℕ, ◌+◌, ◌-◌, ◌^◌, ◌<◌, ◌≤◌, min, Bool, true, false, cond, not, ◌||◌, [], ◌∷◌, length, is_some, Some, None, Ok, Err, Option, Result, ◌==◌, ◌≢◌, nat_le, nat_lt, slice_index_or, slice_set}
+use Rattle.std.specs.Prelude.{◌≡◌, ℕ, ◌+◌, ◌-◌, ◌^◌, ◌<◌, ◌≤◌, min, Bool, true, false, cond, not, ◌||◌, [], ◌∷◌, length, is_some, Some, None, Ok, Err, Option, Result, MatchOption, ◌==◌, ◌≢◌, nat_le, nat_lt, slice_index_or, slice_set}
 use Rattle.lengths.specs.Kind.{Kind}
-use Rattle.rules.specs.Status.{number_of}
+use Rattle.rules.specs.Records.{is_no_record, Numbered}
 use Rattle.rules.specs.declared.verdict.Plan.{Plan}
 use Rattle.rules.specs.declared.record.Record.{Record}
 use Rattle.rules.specs.declared.status.Status.TheVariants.{I}
 use Rattle.rules.specs.declared.verdict.Verdict.{Verdict}
 use Rattle.rules.specs.declared.verdict.Verdict.TheVariants.{RC, REB, REF, RI, RR}
-use Rattle.rules.specs.Rules.{Effect, TakesAt}
+use Rattle.rules.specs.Rules.{rule_of, Effect, TakesLeast}
 use Rattle.network.specs.Cables.{Adds, Removes, around}
 use Rattle.network.specs.Turns.{HasVerdict, Turn, alive_root, used}
 use Rattle.network.specs.declared.End.{End}
@@ -22,6 +22,7 @@ use Rattle.hall.specs.declared.plans.Plans.{Plans}
 use Rattle.hall.specs.declared.questions.Look.{Look}
 use Rattle.hall.specs.declared.tables.Hall.{Hall}
 use Rattle.hall.specs.declared.tables.Tally.{Tally}
+use Rattle.hall.specs.declared.view.Around.{Around}
 
 -- how many boards there are
 abbrev pub boards_in : {V : Type 0} → Hall V → ℕ
@@ -99,20 +100,6 @@ abbrev pub Cuts : {V : Type 0} → Kind V → Hall V → ℕ → ℕ → Result 
 Cuts k before a p (Ok _) after = (refusal (cut_checks before a p) ≡ None) × Anew before after × SameRecords k before after × ((e : End) × (far_in before a p ≡ Some e) × Removes (far_in before) a p e (far_in after))
 Cuts k before a p (Err f) after = (refusal (cut_checks before a p) ≡ Some f) × (after ≡ before)
 
--- whether there is no record of such a status, par and code
-abbrev pub is_no_record : {V : Type 0} → Kind V → ℕ → ℕ → ℕ → Bool
-is_no_record k s p c = nat_lt 3 s || (nat_lt 255 p || not (is_some (k.decoded c)))
-
--- the record of these numbers
-pub record Numbered {V : Type 0} (k : Kind V) (s p c : ℕ) (own : Record V) : Type 0 where
-  pub status : number_of own.status ≡ s
-  pub par : own.par ≡ p
-  pub length : k.decoded c ≡ Some own.length
-
-abbrev pub ReadsRecord : {V : Type 0} → Kind V → ℕ → ℕ → ℕ → Result (Record V) Fault → Type 0
-ReadsRecord k s p c (Ok own) = (is_no_record k s p c ≡ false) × Numbered k s p c own
-ReadsRecord k s p c (Err f) = (is_no_record k s p c ≡ true) × (f ≡ BadRecord)
-
 -- plant: the board is there and not 0, and there are such a status, par and code
 abbrev pub plant_checks : {V : Type 0} → Kind V → Hall V → ℕ → ℕ → ℕ → ℕ → Checks
 plant_checks k h b s p c = (Board, nat_le (boards_in h) b) ∷ (Root, (b == 0)) ∷ (BadRecord, is_no_record k s p c) ∷ []
@@ -165,10 +152,19 @@ abbrev pub TellsEnabled : {V : Type 0} → Kind V → Hall V → ℕ → Bool �
 TellsEnabled k h b true = (v : Verdict) × VerdictIn k h b v
 TellsEnabled k h b false = (v : Verdict) → VerdictIn k h b v → ⊥
 
+-- whether there is a board b
+abbrev pub There : {V : Type 0} → Hall V → ℕ → Result (Unit {0}) Fault → Type 0
+There h b (Ok _) = b < boards_in h
+There h b (Err f) = (f ≡ Board) × (boards_in h ≤ b)
+
+-- board b as the rules see it through the hall's tables, or nothing for board 0 and for what is no board
+abbrev pub Sees : {V : Type 0} → Hall V → ℕ → Option (Around V) → Type 0
+Sees h b r = MatchOption r (((b ≡ 0 → ⊥) × (b < boards_in h)) → ⊥) (λ a. (b ≢ 0) × (b < boards_in h) × (a.cabling.now ≡ h.cabling) × (a.records.now ≡ h.ledger.records) × (a.board ≡ b))
+
 -- how board b would move on these cables and records: by its verdict, and not at all where it has none
 abbrev pub PlanOn : {V : Type 0} → Kind V → ℕ → (ℕ → ℕ → Option End) → (ℕ → Record V) → ℕ → Option Plan → Type 0
 PlanOn k n far rec b None = (v : Verdict) → HasVerdict k n far rec b v → ⊥
-PlanOn k n far rec b (Some p) = HasVerdict k n far rec b p.rule × TakesAt k (around far rec b) p.rule p.port
+PlanOn k n far rec b (Some p) = HasVerdict k n far rec b (rule_of p) × TakesLeast k (around far rec b) p
 
 -- how board b would move in the hall
 abbrev pub PlanIn : {V : Type 0} → Kind V → Hall V → ℕ → Option Plan → Type 0

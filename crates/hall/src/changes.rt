@@ -1,7 +1,7 @@
 ghost use Rattle.std.specs.Prelude.{◌≡◌, ℕ, ◌<◌, slice_index_or};
 ghost use Rattle.rules.specs.declared.verdict.Verdict.{Verdict};
 ghost use Rattle.hall.specs.Tables.{rec_of};
-ghost use Rattle.hall.specs.Hall.{count_of, nothing, new_record, Makes, Wires, Cuts, Planted, ReadsRecord};
+ghost use Rattle.hall.specs.Hall.{count_of, nothing, new_record, Makes, Wires, Cuts, Planted};
 
 use crate::cabling::Cabling;
 use crate::fault::Fault;
@@ -13,14 +13,7 @@ use rules::{Record, Status};
 fn no_moves() -> [Tally; 64]
     ensures { (b : ℕ) → slice_index_or result b nothing ≡ nothing }
 {
-    let tally = Tally {
-        corrected: 0,
-        broadcast: 0,
-        fedback: 0,
-        isolated: 0,
-        rejoined: 0,
-    };
-    [tally; 64]
+    [Tally::default(); 64]
 }
 
 // The records of a new hall.
@@ -32,8 +25,9 @@ fn isolated<L: Length>() -> Ledger<L>
         par: 255,
         length: L::start(),
     };
-    let records = [record; 64];
-    Ledger { records }
+    Ledger {
+        records: [record; 64],
+    }
 }
 
 impl<L: Length> Hall<L> {
@@ -41,15 +35,11 @@ impl<L: Length> Hall<L> {
     pub fn new(n: u32) -> Result<Hall<L>, Fault>
         ensures { Makes L.Length.meaning n result }
     {
-        let Some(cabling) = Cabling::new(n) else {
-            return Err(Fault::Size);
-        };
-        let ledger = isolated();
-        let tallies = no_moves();
+        let cabling = Cabling::new(n).ok_or(Fault::Size)?;
         Ok(Hall {
             cabling,
-            ledger,
-            tallies,
+            ledger: isolated(),
+            tallies: no_moves(),
         })
     }
 
@@ -57,10 +47,8 @@ impl<L: Length> Hall<L> {
     pub fn wire(&mut self, a: u32, p: u32, b: u32, q: u32, weight: u32) -> Result<(), Fault>
         ensures { Wires L.Length.meaning self.old a p b q weight result self.new }
     {
-        let n = self.cabling.boards();
-        if n <= a || n <= b {
-            return Err(Fault::Board);
-        }
+        self.there(a)?;
+        self.there(b)?;
         if 7 < p || 7 < q {
             return Err(Fault::Port);
         }
@@ -82,15 +70,11 @@ impl<L: Length> Hall<L> {
     pub fn cut(&mut self, a: u32, p: u32) -> Result<(), Fault>
         ensures { Cuts L.Length.meaning self.old a p result self.new }
     {
-        if self.cabling.boards() <= a {
-            return Err(Fault::Board);
-        }
+        self.there(a)?;
         if 7 < p {
             return Err(Fault::Port);
         }
-        let Some(end) = self.cabling.far(a, p) else {
-            return Err(Fault::NoCable);
-        };
+        let end = self.cabling.far(a, p).ok_or(Fault::NoCable)?;
         self.cabling.cut(a, p, end);
         self.tallies = no_moves();
         Ok(())
@@ -100,35 +84,13 @@ impl<L: Length> Hall<L> {
     pub fn plant(&mut self, board: u32, status: u32, par: u32, code: u64) -> Result<(), Fault>
         ensures { Planted L.Length.meaning self.old board status par code result self.new }
     {
-        if self.cabling.boards() <= board {
-            return Err(Fault::Board);
-        }
+        self.there(board)?;
         if board == 0 {
             return Err(Fault::Root);
         }
-        let record = read_record(status, par, code)?;
+        let record = Record::read(status, par, code).ok_or(Fault::Record)?;
         self.ledger.records[board as usize] = record;
         self.tallies = no_moves();
         Ok(())
     }
-}
-
-// The record of three numbers.
-fn read_record<L: Length>(status: u32, par: u32, code: u64) -> Result<Record<L>, Fault>
-    ensures { ReadsRecord L.Length.meaning status par code result }
-{
-    let Some(status) = Status::numbered(status) else {
-        return Err(Fault::Record);
-    };
-    let Ok(par) = u8::try_from(par) else {
-        return Err(Fault::Record);
-    };
-    let Some(length) = L::read(code) else {
-        return Err(Fault::Record);
-    };
-    Ok(Record {
-        status,
-        par,
-        length,
-    })
 }

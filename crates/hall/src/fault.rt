@@ -1,50 +1,37 @@
 ghost use Rattle.std.specs.Prelude.{◌≡◌};
 ghost use Rattle.hall.specs.Faults.{fault_number};
 
-// Why a hall refuses a call.
-#[derive(Clone, Copy)]
+// Why a hall refuses a call, each with the number that the refusal returns.
+#[derive(Clone, Copy, PartialEq, Eq)]
 pub enum Fault {
     // the number of boards is not 1 to 64
-    Size,
+    Size = 1,
     // there is no such board
-    Board,
+    Board = 2,
     // a port is above 7
-    Port,
+    Port = 3,
     // both ends are at one board
-    SameBoard,
+    SameBoard = 4,
     // a port already has a cable
-    Occupied,
+    Occupied = 5,
     // the port has no cable
-    NoCable,
+    NoCable = 6,
     // the weight is not admitted
-    Weight,
+    Weight = 7,
     // the board is 0
-    Root,
+    Root = 8,
     // no such status, par or code
-    Record,
+    Record = 9,
     // the set is empty
-    Empty,
+    Empty = 10,
     // a board of the set is not enabled
-    Disabled,
+    Disabled = 11,
 }
 
-impl Fault {
-    // The number that a refusal returns.
-    pub fn number(self) -> u32
-        ensures { result ≡ fault_number self }
-    {
-        match self {
-            Fault::Size => 1,
-            Fault::Board => 2,
-            Fault::Port => 3,
-            Fault::SameBoard => 4,
-            Fault::Occupied => 5,
-            Fault::NoCable => 6,
-            Fault::Weight => 7,
-            Fault::Root => 8,
-            Fault::Record => 9,
-            Fault::Empty => 10,
-            Fault::Disabled => 11,
-        }
+impl From<Fault> for u32 {
+    ghost from_gives = { λ f n. n ≡ fault_number f };
+
+    fn from(fault: Fault) -> u32 {
+        fault as u32
     }
 }

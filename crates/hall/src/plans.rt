@@ -1,14 +1,10 @@
-ghost use Rattle.std.specs.Prelude.{◌≡◌, ◌<◌, length, Some};
-ghost use Rattle.network.specs.Cables.{around};
-ghost use Rattle.rules.specs.Rules.{followed};
-ghost use Rattle.hall.specs.Hall.{PlanIn, AllPlanned, EnabledSet, JudgedAgain};
-ghost use Rattle.hall.specs.Tables.{far_of, rec_of};
+ghost use Rattle.std.specs.Prelude.{◌≡◌};
+ghost use Rattle.hall.specs.Hall.{PlanIn, AllPlanned, EnabledSet, JudgedAgain, Sees};
 
-use crate::cabling::Cabling;
 use crate::tables::Hall;
-use crate::view::{Around, record_at};
+use crate::view::Around;
 use lengths::Length;
-use rules::{Plan, Record, decide, follow};
+use rules::Plan;
 use sets::{Members, with, without};
 
 // How each board would move, as it was last judged.
@@ -24,40 +20,27 @@ impl Plans {
     }
 }
 
-// The record of a board that follows a plan, on these records.
-pub(crate) fn follow_on<'a, L: Length>(
-    cabling: &'a Cabling,
-    records: &'a [Record<L>],
-    board: u32,
-    plan: Plan,
-) -> Record<L>
-    requires whole { length records.now ≡ 64 }
-    requires inside { board < 64 }
-    ensures { result ≡ followed L.Length.meaning (rec_of L.Length.meaning records.now board) (around (far_of cabling.now.ends) (rec_of L.Length.meaning records.now) board) (Some plan) }
-{
-    let own = record_at(records, board);
-    let around = Around {
-        cabling,
-        records,
-        board,
-    };
-    follow(own, &around, Some(plan))
-}
-
 impl<L: Length> Hall<L> {
-    // How a board would move; board 0, and what is no board of the hall, would not.
-    fn plan_at(&self, board: u32) -> Option<Plan>
-        ensures { PlanIn L.Length.meaning self.now board result }
+    // A board as the rules see it; nothing for board 0, which they never move, and for what is no board of the hall.
+    pub(crate) fn ruled(&self, board: u32) -> Option<Around<'_, L>>
+        ensures { Sees self.now board result }
     {
         if board == 0 || self.cabling.boards() <= board {
             return None;
         }
-        let around = Around {
+        Some(Around {
             cabling: &self.cabling,
             records: &self.ledger.records,
             board,
-        };
-        decide(record_at(&self.ledger.records, board), &around)
+        })
+    }
+
+    // How a board would move; board 0, and what is no board of the hall, would not.
+    pub(crate) fn plan_at(&self, board: u32) -> Option<Plan>
+        ensures { PlanIn L.Length.meaning self.now board result }
+    {
+        let around = self.ruled(board)?;
+        around.board().plan()
     }
 
     // Judges the boards in doubt again. Answers the boards of the set, but of those in doubt just the enabled ones.

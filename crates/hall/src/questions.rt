@@ -1,13 +1,13 @@
 ghost use Rattle.std.specs.Prelude.{◌≡◌, ◌<◌};
 ghost use Rattle.network.specs.Turns.{alive_root};
-ghost use Rattle.hall.specs.Hall.{boards_in, far_in, records_in, IsVerdict, Looks, Tallies, EnabledSet};
+ghost use Rattle.hall.specs.Hall.{boards_in, far_in, records_in, There, IsVerdict, Looks, Tallies, EnabledSet};
 
 use crate::fault::Fault;
 use crate::plans::Plans;
 use crate::tables::{Hall, Tally};
-use crate::view::{Around, record_at};
+use crate::view::record_at;
 use lengths::Length;
-use rules::{Record, Status, Verdict, abnormal_root, verdict};
+use rules::{Record, Status, Verdict};
 
 // A board's record, its verdict, and whether it is an alive abnormal root.
 #[derive(Clone, Copy)]
@@ -18,48 +18,40 @@ pub struct Look<L> {
 }
 
 impl<L: Length> Hall<L> {
+    // Refuses what is no board of the hall.
+    pub(crate) fn there(&self, board: u32) -> Result<(), Fault>
+        ensures { There self.now board result }
+    {
+        if self.cabling.boards() <= board {
+            return Err(Fault::Board);
+        }
+        Ok(())
+    }
+
     // The verdict of a board; board 0, and what is no board, has none.
     pub(crate) fn verdict_at(&self, board: u32) -> Option<Verdict>
         ensures { IsVerdict L.Length.meaning self.now board result }
     {
-        if board == 0 {
-            return None;
-        }
-        if self.cabling.boards() <= board {
-            return None;
-        }
-        let around = Around {
-            cabling: &self.cabling,
-            records: &self.ledger.records,
-            board,
-        };
-        verdict(record_at(&self.ledger.records, board), &around)
+        self.plan_at(board).map(|plan| plan.verdict())
     }
 
+    // Whether a board is an abnormal root that is C or EB; board 0 is none.
     fn is_alive_root(&self, board: u32) -> bool
         requires { board < boards_in self.now }
         ensures { result ≡ alive_root L.Length.meaning (far_in self.now) (records_in L.Length.meaning self.now) board }
     {
-        if board == 0 {
+        let Some(around) = self.ruled(board) else {
             return false;
-        }
-        let around = Around {
-            cabling: &self.cabling,
-            records: &self.ledger.records,
-            board,
         };
-        let record = record_at(&self.ledger.records, board);
-        abnormal_root(record, &around)
-            && (record.status.is(Status::C) || record.status.is(Status::EB))
+        let own = around.board();
+        own.is_abnormal_root() && (own.own.status == Status::C || own.own.status == Status::EB)
     }
 
     // A board's record, its verdict, and whether it is an alive abnormal root.
     pub fn look(&self, board: u32) -> Result<Look<L>, Fault>
         ensures { Looks L.Length.meaning self.now board result }
     {
-        if self.cabling.boards() <= board {
-            return Err(Fault::Board);
-        }
+        self.there(board)?;
         Ok(Look {
             record: record_at(&self.ledger.records, board),
             verdict: self.verdict_at(board),
@@ -71,9 +63,7 @@ impl<L: Length> Hall<L> {
     pub fn tally(&self, board: u32) -> Result<Tally, Fault>
         ensures { Tallies self.now board result }
     {
-        if self.cabling.boards() <= board {
-            return Err(Fault::Board);
-        }
+        self.there(board)?;
         Ok(self.tallies[board as usize])
     }
 

@@ -5,11 +5,13 @@ use rules::Record;
 use std::alloc::AllocError;
 
 // The records of the boards. What stands at board 0 is not read: the root's record never changes.
+// A struct of their own, since no step is proved that copies an array of a type parameter's values from behind a reference.
 #[derive(Copy)]
 pub(crate) struct Ledger<L> {
     pub(crate) records: [Record<L>; 64],
 }
 
+// By hand: the proof that a derive makes stays open at an array of a type parameter's values.
 impl<L: Copy> Clone for Ledger<L> {
     ghost is_clone = { λ x y. y ≡ x };
 
@@ -21,7 +23,7 @@ impl<L: Copy> Clone for Ledger<L> {
 }
 
 // How often a board has moved by each rule, each count stopping at 2^64 - 1.
-#[derive(Clone, Copy)]
+#[derive(Clone, Copy, Default, PartialEq, Eq)]
 pub struct Tally {
     // RC: it took a lesser offer
     pub corrected: u64,
@@ -35,7 +37,7 @@ pub struct Tally {
     pub rejoined: u64,
 }
 
-// A hall whose lengths are of the kind L.
+// A hall whose lengths are of the kind L. A turn copies the records and nothing else, so they stand in a table of their own.
 #[derive(Drop)]
 pub struct Hall<L> {
     pub(crate) cabling: Cabling,

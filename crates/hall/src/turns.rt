@@ -3,8 +3,9 @@ ghost use Rattle.rules.specs.declared.verdict.Verdict.{Verdict};
 ghost use Rattle.hall.specs.Hall.{count_of, counted, Noted, AllPlanned, AllEnabled, SomeDisabled, Turned, Turns};
 
 use crate::fault::Fault;
-use crate::plans::{Plans, follow_on};
+use crate::plans::Plans;
 use crate::tables::{Hall, Tally};
+use crate::view::Around;
 use lengths::Length;
 use rules::{Record, Verdict as Rule};
 use sets::{Members, least_from, size};
@@ -44,8 +45,13 @@ impl<L: Length> Hall<L> {
         for board in Members::of(set) {
             let planned = plans.of[board as usize];
             if let Some(plan) = planned {
-                let record = follow_on(&self.cabling, &before.records, board, plan);
-                self.note(board, record, plan.rule);
+                let around = Around {
+                    cabling: &self.cabling,
+                    records: &before.records,
+                    board,
+                };
+                let record = around.board().follow(planned);
+                self.note(board, record, plan.verdict());
             }
         }
     }

@@ -1,30 +1,20 @@
 ghost use Rattle.std.specs.Prelude.{◌≡◌, ◌<◌, length};
 ghost use Rattle.network.specs.Cables.{around};
-ghost use Rattle.rules.specs.Records.{root_of};
 ghost use Rattle.hall.specs.Tables.{far_of, rec_of};
 
 use crate::cabling::Cabling;
 use lengths::Length;
-use rules::{Neighbourhood, Record, Seen, Status};
+use rules::{Board, Neighbourhood, Record, Seen};
 
-// What one board of a hall sees through the hall's tables.
+// What one board of a hall sees through the hall's tables. The records are a slice, since each call that takes an array of a
+// type parameter's values has to be shown that the array fits in memory.
 #[derive(Drop)]
 pub(crate) struct Around<'a, L> {
     pub(crate) cabling: &'a Cabling,
     pub(crate) records: &'a [Record<L>],
     pub(crate) board: u32,
     ghost whole: { length records.now ≡ 64 },
-}
-
-// The root's record.
-pub(crate) fn root<L: Length>() -> Record<L>
-    ensures { result ≡ root_of L.Length.meaning }
-{
-    Record {
-        status: Status::C,
-        par: 255,
-        length: L::start(),
-    }
+    ghost inside: { board < 64 },
 }
 
 // A board's record; board 0's is the root's, whatever the table has.
@@ -34,7 +24,20 @@ pub(crate) fn record_at<L: Length>(records: &[Record<L>], board: u32) -> Record<
 {
     // Read first, so that the choice needs no jump.
     let stored = records[board as usize];
-    if board == 0 { root() } else { stored }
+    if board == 0 { Record::root() } else { stored }
+}
+
+impl<'a, L: Length> Around<'a, L> {
+    // The board with its record, for the rules to judge.
+    pub(crate) fn board(&self) -> Board<'_, L, Around<'a, L>>
+        ensures own { result.own ≡ rec_of L.Length.meaning self.now.records.now self.now.board }
+        ensures near { result.near.now ≡ self.now }
+    {
+        Board {
+            own: record_at(self.records, self.board),
+            near: self,
+        }
+    }
 }
 
 impl<'a, L: Length> Neighbourhood<L> for Around<'a, L> {

@@ -1,9 +1,10 @@
-use Rattle.std.proofs.Common.{◌≡◌, ℕ, ◌≤◌, false, Some, Option, sym, refl, ◌∙◌, subst}
-use Rattle.rules.specs.Rules.{followed}
+use Rattle.std.proofs.Common.{◌≡◌, ℕ, ◌≤◌, false, Some, Option, sym, refl, ◌∙◌, subst, rules}
+use Rattle.rules.specs.Rules.{rule_of, followed}
 use Rattle.rules.specs.declared.verdict.Plan.{Plan}
 use Rattle.network.specs.Cables.{around}
 use Rattle.sets.specs.Sets.{has, LeastFrom}
-use Rattle.hall.specs.Hall.{far_in, records_in, PlanIn}
+use Rattle.rules.specs.declared.verdict.Verdict.{Verdict}
+use Rattle.hall.specs.Hall.{far_in, records_in, PlanIn, Noted}
 use Rattle.hall.specs.Tables.{far_of}
 use Rattle.hall.specs.declared.cabling.Cabling.{Cabling}
 use Rattle.hall.proofs.Midway.{Midway, skipped, idles, noted, all_moved}
@@ -36,21 +37,22 @@ loop-board-preserved-in-Some-planned g c =
     let s = c.args.set in
     let m = c.in-Some.board in
     let plan = c.in-Some-planned.plan in
-    let next = c.follow_on-record.result in
+    let next = c.follow-record.result in
     let old = c.loop-board.self in
     let after = c.note.new.self in
     let from = c.loop-board.board-iterator.from in
     let inv = c.loop-board.invariant in
     let step = c.in-Some.ensures.steps in
     let found = subst (λ x. LeastFrom x from m) inv.0 step.0 in
-    let is = subst (λ (x : Cabling). next ≡ followed k (records_in k h m) (around (far_of x.ends) (records_in k h) m) (Some plan)) inv.1 c.follow_on-record.ensures in (
+    let is : next ≡ followed k (records_in k h m) (around (far_in h) (records_in k h) m) (Some plan) = search rules in (
       step.1 ∙ inv.0,
       c.note.ensures.cabling ∙ inv.1,
       let right = c.requires in
           let mid = skipped k h s from m old.ledger.records old.tallies inv.2 found.onward found.least in
           let planned = subst (λ (p : Option Plan). PlanIn k h m p) c.in-Some-planned.is (right m found.there) in
+          let noted-so = subst (λ (v : Verdict). Noted old m next v after) c.verdict.ensures c.note.ensures in
           let move = follows_plan k h.cabling.n (far_in h) (records_in k h) m plan next planned is in
-          subst (λ x. Midway k h s x after.ledger.records after.tallies) (sym step.2) (noted k h old after s m plan.rule next mid found.there step.3 move c.note.ensures),
+          subst (λ x. Midway k h s x after.ledger.records after.tallies) (sym step.2) (noted k h old after s m (rule_of plan) next mid found.there step.3 move noted-so),
     )
 
 pub returns : goal.returns

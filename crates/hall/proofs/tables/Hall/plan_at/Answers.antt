@@ -1,6 +1,14 @@
-use Rattle.std.proofs.Common.{arith}
+use Rattle.std.proofs.Common.{◌≡◌, rules}
+use Rattle.rules.specs.Rules as Rules
+use Rattle.network.specs.Cables.{around}
+use Rattle.hall.specs.Hall.{far_in, records_in}
 use Rattle.hall.proofs.Verdicts.{plan_of_board}
 use Rattle.hall.proofs.tables.Hall.plan_at.Goals as goal
 
 pub returns : goal.returns
-returns g c = plan_of_board g.L.Length.meaning c.args.self.now c.args.board (omega (arith, c.boards.ensures)) c.if-board-eq0.false c.record_at.result c.record_at.ensures c.decide.result c.decide.ensures
+returns g c =
+    let k = g.L.Length.meaning in
+    let h = c.args.self.now in
+    let own : c.board.result.own ≡ records_in k h c.args.board = search rules in
+    let plans : Rules.Plans k c.board.result.own (around (far_in h) (records_in k h) c.args.board) c.plan.result = search rules in
+    plan_of_board k h c.args.board (search rules) (search rules) c.board.result.own own c.plan.result plans

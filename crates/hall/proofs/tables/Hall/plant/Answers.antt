@@ -1,5 +1,6 @@
 use Rattle.std.proofs.Common.{◌≡◌, length, sym, refl, subst, arith, rules}
 use Rattle.rules.specs.Records.{Numbered}
+use Rattle.std.proofs.lemmas.Option.{MatchOption-at_some}
 use Rattle.hall.proofs.Beginning.{anew, put_record, other_record}
 use Rattle.hall.proofs.tables.Hall.plant.Goals as goal
 
@@ -10,7 +11,7 @@ returns g c =
     let b = c.args.board in
     let own = c.in_ok-record.record in
     let whole : length rs ≡ 64 = search rules in
-    let read = c.in_ok-record.ensures in (
+    let read = MatchOption-at_some _ _ _ c.in_ok-record.ensures.ok_part c.read.ensures in (
       search rules,
       anew _ _ refl c.no_moves-self.ensures,
       λ b p. refl,
