@@ -10,19 +10,19 @@ use lengths::Length;
 use rules::{Record, Verdict as Rule};
 use sets::{Members, least_from, size};
 
-// The tally with one move more.
-fn counting(tally: Tally, rule: Rule) -> Tally
-    ensures { (v : Verdict) → count_of result v ≡ counted (count_of tally v) (Some rule) v }
-{
-    let mut next = tally;
-    match rule {
-        Rule::RC => next.corrected = tally.corrected.saturating_add(1),
-        Rule::REB => next.broadcast = tally.broadcast.saturating_add(1),
-        Rule::REF => next.fedback = tally.fedback.saturating_add(1),
-        Rule::RI => next.isolated = tally.isolated.saturating_add(1),
-        Rule::RR => next.rejoined = tally.rejoined.saturating_add(1),
+impl Tally {
+    // One move more by this rule.
+    fn count(&mut self, rule: Rule)
+        ensures { (v : Verdict) → count_of self.new v ≡ counted (count_of self.old v) (Some rule) v }
+    {
+        match rule {
+            Rule::RC => self.corrected = self.corrected.saturating_add(1),
+            Rule::REB => self.broadcast = self.broadcast.saturating_add(1),
+            Rule::REF => self.fedback = self.fedback.saturating_add(1),
+            Rule::RI => self.isolated = self.isolated.saturating_add(1),
+            Rule::RR => self.rejoined = self.rejoined.saturating_add(1),
+        }
     }
-    next
 }
 
 impl<L: Length> Hall<L> {
@@ -31,9 +31,8 @@ impl<L: Length> Hall<L> {
         requires { board < 64 }
         ensures { Noted self.old board moved rule self.new }
     {
-        let tally = self.tallies[board as usize];
         self.ledger.records[board as usize] = moved;
-        self.tallies[board as usize] = counting(tally, rule);
+        self.tallies[board as usize].count(rule);
     }
 
     // The boards of the set move together, each as it is planned.

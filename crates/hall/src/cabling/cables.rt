@@ -55,18 +55,16 @@ impl Cabling {
         ensures boards { self.new.n ≡ self.old.n }
         ensures cables { Adds (far_of self.old.ends) a p b q weight (far_of self.new.ends) }
     {
-        let mut ends = self.ends;
-        ends[a as usize][p as usize] = Some(End {
+        self.ends[a as usize][p as usize] = Some(End {
             board: b as u8,
             port: q as u8,
             weight,
         });
-        ends[b as usize][q as usize] = Some(End {
+        self.ends[b as usize][q as usize] = Some(End {
             board: a as u8,
             port: p as u8,
             weight,
         });
-        self.ends = ends;
     }
 
     // The cable at a port is gone, and both its ports are free.
@@ -75,9 +73,7 @@ impl Cabling {
         ensures boards { self.new.n ≡ self.old.n }
         ensures cables { Removes (far_of self.old.ends) a p end (far_of self.new.ends) }
     {
-        let mut ends = self.ends;
-        ends[a as usize][p as usize] = None;
-        ends[end.board as usize][end.port as usize] = None;
-        self.ends = ends;
+        self.ends[a as usize][p as usize] = None;
+        self.ends[end.board as usize][end.port as usize] = None;
     }
 }

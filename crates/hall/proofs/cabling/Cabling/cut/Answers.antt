@@ -3,17 +3,17 @@ use Rattle.hall.proofs.CableLaw.{cabled, in_table}
 use Rattle.hall.proofs.Rewiring.{put, put_rows, removes, removes_cabled}
 use Rattle.hall.proofs.cabling.Cabling.cut.Goals as goal
 
-pub bounds-ends-a : goal.bounds-ends-a
-bounds-ends-a c = let self = c.args.self.now in (in_table self.wired self.few c.args.a c.args.p c.args.end c.requires.stands).board
+pub bounds-self-a : goal.bounds-self-a
+bounds-self-a c = let self = c.args.self.now in (in_table self.wired self.few c.args.a c.args.p c.args.end c.requires.stands).board
 
-pub bounds-ends-p : goal.bounds-ends-p
-bounds-ends-p c = let self = c.args.self.now in (in_table self.wired self.few c.args.a c.args.p c.args.end c.requires.stands).port
+pub bounds-self-p : goal.bounds-self-p
+bounds-self-p c = let self = c.args.self.now in (in_table self.wired self.few c.args.a c.args.p c.args.end c.requires.stands).port
 
-pub bounds-ends-end : goal.bounds-ends-end
-bounds-ends-end c = let self = c.args.self.now in (in_table self.wired self.few c.args.a c.args.p c.args.end c.requires.stands).far_board
+pub bounds-self-end : goal.bounds-self-end
+bounds-self-end c = let self = c.args.self.now in (in_table self.wired self.few c.args.a c.args.p c.args.end c.requires.stands).far_board
 
-pub bounds-ends-end-2 : goal.bounds-ends-end-2
-bounds-ends-end-2 c = let self = c.args.self.now in (in_table self.wired self.few c.args.a c.args.p c.args.end c.requires.stands).far_port
+pub bounds-self-end-2 : goal.bounds-self-end-2
+bounds-self-end-2 c = let self = c.args.self.now in (in_table self.wired self.few c.args.a c.args.p c.args.end c.requires.stands).far_port
 
 pub invariant_of-self : goal.invariant_of-self
 invariant_of-self c =
