@@ -24,10 +24,7 @@ impl Ring {
 fn next_after(set: u64, last: u32) -> Option<u32>
     ensures { result ≡ following set last }
 {
-    match least_from(set, last.saturating_add(1)) {
-        Some(board) => Some(board),
-        None => least_from(set, 0),
-    }
+    least_from(set, last.saturating_add(1)).or_else(|| least_from(set, 0))
 }
 
 impl Picker for Ring {

@@ -45,16 +45,13 @@ pub fn size(set: u64) -> u32
 }
 
 // The least board of the set from `from` on, if there is one.
+#[tactic(auto, using(crate::proofs::Bits::none_from, crate::proofs::Bits::none_past))]
 pub fn least_from(set: u64, from: u32) -> Option<u32>
     ensures { MatchOption result ((b : ℕ) → from ≤ b → has set b ≡ false) (LeastFrom set from) }
 {
-    if 64 <= from {
+    let rest = set.checked_shr(from)?;
+    if rest == 0 {
         return None;
     }
-    let rest = set >> from;
-    if rest == 0 {
-        None
-    } else {
-        Some(from + rest.trailing_zeros())
-    }
+    Some(from + rest.trailing_zeros())
 }
