@@ -6,7 +6,8 @@ use Rattle.rules.specs.Status.{number_of}
 use Rattle.rules.specs.declared.record.Record.{Record}
 use Rattle.sets.specs.Sets.{has}
 use Rattle.frames.specs.Record.{body_of, Unreadable}
-use Rattle.frames.specs.Stream.{recorded, head_length, RecordHead}
+use Rattle.frames.specs.Head.{head_length}
+use Rattle.frames.specs.Stream.{recorded, RecordHead}
 use Rattle.frames.specs.declared.fault.FrameFault.{FrameFault}
 use Rattle.frames.specs.declared.fault.FrameFault.TheVariants.{Short, Extent, Size, Field, Code}
 use Rattle.frames.proofs.Fronts.{front_record}

@@ -4,7 +4,8 @@ use Rattle.lengths.specs.Kind.{Kind}
 use Rattle.rules.specs.declared.record.Record.{Record}
 use Rattle.sets.specs.Sets.{has}
 use Rattle.frames.specs.Record.{frame_of}
-use Rattle.frames.specs.Stream.{head_length, head_kind, Whole, Damage}
+use Rattle.frames.specs.Head.{head_length, head_kind, Whole}
+use Rattle.frames.specs.Stream.{Damage}
 use Rattle.frames.specs.declared.fault.FrameFault.TheVariants.{Short, Extent, Size, Field, Code}
 use Rattle.board.specs.Station.{wired_at}
 use Rattle.board.specs.declared.fault.EarFault.{EarFault}

@@ -4,7 +4,8 @@ use Rattle.std.proofs.lemmas.List.{length-take-le, get_or-take}
 use Rattle.lengths.specs.Kind.{Kind}
 use Rattle.frames.specs.Items.{TellsBody, BodyDamage}
 use Rattle.frames.specs.Record.{Unreadable}
-use Rattle.frames.specs.Stream.{Told, recorded, unknown, head_length, head_kind, Whole, Damage, First}
+use Rattle.frames.specs.Head.{head_length, head_kind, Whole}
+use Rattle.frames.specs.Stream.{Told, recorded, unknown, Damage, First}
 use Rattle.frames.specs.declared.fault.FrameFault.{FrameFault}
 use Rattle.frames.specs.declared.fault.FrameFault.TheVariants.{Short, Extent, Size, Field, Code}
 use Rattle.frames.proofs.Streams.{unreadable_alike}

@@ -6,7 +6,8 @@ use Rattle.lengths.specs.Kind.{Kind, Laws}
 use Rattle.rules.specs.Status.{number_of}
 use Rattle.rules.specs.declared.record.Record.{Record}
 use Rattle.frames.specs.Record.{Fields, code_in}
-use Rattle.frames.specs.Stream.{Told, recorded, unknown, End, ended, stopped, head_length, head_kind, Whole, RecordHead, Damage, First, Stands, Small, Meant}
+use Rattle.frames.specs.Head.{head_length, head_kind, Whole}
+use Rattle.frames.specs.Stream.{Told, recorded, unknown, End, ended, stopped, RecordHead, Damage, First, Stands, Small, Meant}
 use Rattle.frames.specs.declared.fault.FrameFault.{FrameFault}
 use Rattle.frames.specs.declared.fault.FrameFault.TheVariants.{Short, Extent, Size, Field, Code}
 use Rattle.frames.proofs.Fronts.{alike, front_record, front_other}

@@ -32,16 +32,12 @@ pub fn read_record<L: Length>(frame: &[u8; 16]) -> Result<Sent<L>, FrameFault>
     ensures { Reads L.Length.meaning frame.now result }
 {
     let [_, _, _, _, number, par, port, zero, a, b, c, d, e, f, g, h] = *frame;
-    let Some(status) = Status::numbered(u32::from(number)) else {
-        return Err(FrameFault::Field);
-    };
+    let status = Status::numbered(u32::from(number)).ok_or(FrameFault::Field)?;
     if port > LAST_PORT || zero != 0 {
         return Err(FrameFault::Field);
     }
     let code = u64::from_le_bytes([a, b, c, d, e, f, g, h]);
-    let Some(length) = L::read(code) else {
-        return Err(FrameFault::Code);
-    };
+    let length = L::read(code).ok_or(FrameFault::Code)?;
     let record = Record {
         status,
         par,

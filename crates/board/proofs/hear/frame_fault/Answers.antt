@@ -1,6 +1,7 @@
 use Rattle.std.proofs.Common.{◌≡◌, ℕ, ◌<◌, get_or, ◌∙◌, arith}
 use Rattle.std.proofs.lemmas.List.{take_all}
-use Rattle.frames.specs.Stream.{Whole, RecordHead}
+use Rattle.frames.specs.Head.{Whole}
+use Rattle.frames.specs.Stream.{RecordHead}
 use Rattle.board.specs.Hear.{Sole}
 use Rattle.board.proofs.Slots.{is_frame, misread}
 use Rattle.board.proofs.hear.frame_fault.Goals as goal
