@@ -1,9 +1,9 @@
-use Rattle.std.proofs.Common.{◌≡◌, length, get_or, Some, None, sym, ap, ◌∙◌, arith, rules}
+use Rattle.std.proofs.Common.{◌≡◌, ℕ, ◌<◌, length, get_or, Some, None, sym, ap, ◌∙◌, arith, rules}
 use Rattle.std.proofs.lemmas.Result.{err_from_is_err_and}
 use Rattle.rules.specs.Status.{number_of}
 use Rattle.frames.specs.Record.{Fields, code_in}
 use Rattle.frames.specs.declared.fault.FrameFault.TheVariants.{Code}
-use Rattle.frames.proofs.Records.{Bytes, body_read, accepts, refuses}
+use Rattle.frames.proofs.Records.{body_read, accepts, refuses}
 use Rattle.frames.proofs.sent.read_record.Goals as goal
 
 pub returns-in_err-length : goal.returns-in_err-length
@@ -18,7 +18,7 @@ pub returns : goal.returns
 returns g c =
     let frame = c.args.frame.now in
     let long : length frame ≡ 16 = search rules in
-    let small : Bytes frame = search rules in
+    let small : (i : ℕ) → i < 16 → get_or frame i 0 < 256 = search rules in
     let fields : Fields frame = search rules in
     let status : number_of c.in_ok-status.status ≡ get_or frame 4 0 = search rules in
     let code : g.L.Length.meaning.decoded (code_in frame) ≡ Some c.in_ok-length.length = ap g.L.Length.meaning.decoded (sym c.from_le_bytes-code.ensures) ∙ sym c.read.ensures ∙ c.in_ok-length.ensures.ok_part in
