@@ -1,5 +1,5 @@
 -- What a slot shows, and that a board which is up to date sees what a hall shows it.
-use Rattle.std.proofs.Common.{◌≡◌, ℕ, ◌≤◌, Bool, true, false, cond, ◌&&◌, eqb, leb, List, get_or, drop, Some, None, Option, sym, refl, ap, ◌∙◌, subst, ap₂, arith, eq-eqb, eqb-true, le-leb, leb-true}
+use Rattle.std.proofs.Common.{◌≡◌, ℕ, ◌≤◌, Bool, true, false, cond, ◌&&◌, eqb, leb, List, get_or, drop, Some, None, Option, Ok, Err, Result, sym, refl, ap, ◌∙◌, subst, ap₂, arith, eq-eqb, eqb-true, le-leb, leb-true}
 use borrow.Author.Tests.{both_ways}
 use Rattle.lengths.specs.Kind.{Kind, Laws}
 use Rattle.rules.specs.Rules.{Moves}
@@ -11,9 +11,11 @@ use Rattle.network.specs.Cables.{around, shown, root_of}
 use Rattle.network.specs.declared.End.{End}
 use Rattle.hall.specs.Hall.{MoveOn}
 use Rattle.hall.proofs.Verdicts.{move_of}
-use Rattle.frames.specs.Record.{body_of, Fields, code_in, Unreadable}
+use Rattle.std.specs.Result.{result_ok}
+use Rattle.frames.specs.Record.{body_of, Fields, code_in, Unreadable, Reads}
 use Rattle.frames.specs.declared.fault.FrameFault.{FrameFault}
 use Rattle.frames.specs.declared.fault.FrameFault.TheVariants.{Short, Extent, Size, Field, Code}
+use Rattle.frames.specs.declared.sent.Sent.{Sent}
 use Rattle.frames.proofs.Bytes.{at_drop}
 use Rattle.frames.proofs.Records.{code_written, fields_written}
 use Rattle.board.specs.Hear.{slot_at}
@@ -66,8 +68,12 @@ module _ {V : Type 0} {k : Kind V} (laws : Laws k) where
   sight_none slot Code w u = if_legible (legible slot) _ None (λ ok. ap (shown_by slot w) u.1) refl
 
   -- what a port shows that is wired, and whose slot was read
-  pub seen_told : (s : Ports) (ear slot : List ℕ) (p w : ℕ) (r : Record V) (port : ℕ) → weight_at s p ≡ Some w → slot ≡ slot_at ear p → port ≤ 7 → drop 4 slot ≡ body_of k r port → Some (record { status = r.status; length = r.length; weight = w; named = eqb r.par port }) ≡ seen_in k s ear p
-  seen_told s ear slot p w r port e f h body = sym (ap₂ (sight k) e (sym f) ∙ sight_told slot r port w h body)
+  pub seen_told : (s : Ports) (ear slot : List ℕ) (p w : ℕ) (read : Result (Sent V) FrameFault) (sent : Sent V) → weight_at s p ≡ Some w → slot ≡ slot_at ear p → Reads k slot read → Some sent ≡ result_ok read → Some (record { status = sent.«record».status; length = sent.«record».length; weight = w; named = eqb sent.«record».par sent.port }) ≡ seen_in k s ear p
+  seen_told s ear slot p w (Ok x) sent e f a is =
+      let same : x ≡ sent = cc in
+      let shows = sym (ap₂ (sight k) e (sym f) ∙ sight_told slot x.«record» x.port w a.own_port a.body) in
+      rw (← same) shows
+  seen_told s ear slot p w (Err fault) sent e f a is = cc
 
   pub seen_none : (s : Ports) (ear slot : List ℕ) (p w : ℕ) (fault : FrameFault) → weight_at s p ≡ Some w → slot ≡ slot_at ear p → Unreadable k slot fault → None ≡ seen_in k s ear p
   seen_none s ear slot p w fault e f u = sym (ap₂ (sight k) e (sym f) ∙ sight_none slot fault w u)

@@ -2,7 +2,7 @@ ghost use Rattle.std.specs.Prelude.{◌≡◌};
 ghost use Rattle.board.specs.Station.{own_of};
 ghost use Rattle.board.specs.Move.{seen_in, Advances, AsInHall};
 
-use crate::ready::slot;
+use crate::ready::slots;
 use crate::states::{Owing, Ready};
 use frames::read_record;
 use lengths::Length;
@@ -15,11 +15,8 @@ impl<'e, L: Length> Neighbourhood<L> for Ready<'e, L> {
 
     fn at(&self, port: u8) -> Option<Seen<L>> {
         let weight = self.station.ports.weight(u32::from(port))?;
-        let ear = self.ear;
-        let fields = slot(ear, u32::from(port)).first_chunk::<16>()?;
-        let Ok(sent) = read_record::<L>(fields) else {
-            return None;
-        };
+        let fields = slots(self.ear).get(usize::from(port))?;
+        let sent = read_record::<L>(fields).ok()?;
         Some(Seen {
             status: sent.record.status,
             length: sent.record.length,

@@ -1,6 +1,6 @@
 ghost use Rattle.std.specs.Prelude.{◌≡◌, MatchBool};
 ghost use Rattle.board.specs.Station.{own_of};
-ghost use Rattle.board.specs.Begin.{fine, AllAdmitted, SomeUnadmitted, ReadsStation, FirstStation, Begins};
+ghost use Rattle.board.specs.Begin.{AllAdmitted, SomeUnadmitted, ReadsStation, FirstStation, Begins};
 
 use crate::fault::EarFault;
 use crate::ports::Ports;
@@ -9,26 +9,11 @@ use crate::station::Station;
 use lengths::Length;
 use rules::{Record, Status};
 
-// Whether a port may have this weight; one that is not wired has none.
-fn fits<L: Length>(weight: Option<u32>) -> bool
-    ensures { result ≡ fine L.Length.meaning weight }
-{
-    match weight {
-        Some(weight) => L::admits(weight),
-        None => true,
-    }
-}
-
 // Whether the weight of every wired port is admitted.
 fn admitted<L: Length>(weights: [Option<u32>; 8]) -> bool
     ensures { MatchBool result (AllAdmitted L.Length.meaning weights) (SomeUnadmitted L.Length.meaning weights) }
 {
-    for port in 0..8usize {
-        if !fits::<L>(weights[port]) {
-            return false;
-        }
-    }
-    true
+    weights.iter().all(|weight| weight.is_none_or(|weight| L::admits(weight)))
 }
 
 // A board with a record that is given as numbers.
@@ -88,9 +73,7 @@ impl<L: Length> Listening<L> {
             return Err(EarFault::Weight);
         }
         let ports = Ports::new(weights);
-        let Some(station) = first_station::<L>(root, status, par, code, ports) else {
-            return Err(EarFault::Record);
-        };
+        let station = first_station::<L>(root, status, par, code, ports).ok_or(EarFault::Record)?;
         Ok(Listening::anew(station))
     }
 

@@ -14,13 +14,7 @@ use rules::{Record, Verdict};
 fn tell_size(ports: Ports) -> usize
     ensures { result ≡ tell_size ports }
 {
-    let mut wired = 0;
-    for port in 0..8u32 {
-        if ports.wired(port) {
-            wired += 1;
-        }
-    }
-    16 * wired
+    16 * (0..8).filter(|port| ports.wired(*port)).count()
 }
 
 // Writes the frame of a record for a port.
