@@ -1,5 +1,5 @@
 -- Bytes that are a record's frame, and ports that were heard.
-use Rattle.std.proofs.Common.{◌≡◌, ℕ, zero, suc, ◌*◌, ◌<◌, ◌≤◌, Bool, true, false, ◌&&◌, ◌||◌, eqb, ltb, List, [], length, get_or, take, drop, sym, refl, ap, ◌∙◌, subst, zero-add, arith, lt-ltb}
+use Rattle.std.proofs.Common.{◌≡◌, ℕ, zero, suc, ◌*◌, ◌<◌, ◌≤◌, Bool, true, false, List, [], length, get_or, take, drop, sym, refl, ap, ◌∙◌, subst, zero-add, arith}
 use Rattle.std.proofs.lemmas.List.{take_all, drop-drop}
 use Rattle.std.proofs.lemmas.List.FromFn.{get_or-range_with_len}
 use Rattle.std.specs.Bool.{MatchBool}
@@ -9,20 +9,14 @@ use Rattle.lengths.specs.Kind.{Kind}
 use Rattle.rules.specs.Status.{number_of}
 use Rattle.rules.specs.declared.record.Record.{Record}
 use Rattle.sets.specs.Sets.{has}
-use Rattle.frames.specs.Record.{body_of, Unreadable}
+use Rattle.frames.specs.Record.{body_of}
 use Rattle.frames.specs.Head.{head_length}
 use Rattle.frames.specs.Stream.{recorded, RecordHead}
-use Rattle.frames.specs.declared.fault.FrameFault.{FrameFault}
-use Rattle.frames.specs.declared.fault.FrameFault.TheVariants.{Short, Extent, Size, Field, Code}
 use Rattle.frames.proofs.Fronts.{front_record}
-use Rattle.board.specs.Hear.{slot_at, IsFrame, Sole, Misframed}
-use Rattle.board.specs.Ready.{AllHeard, SomeUnheard, FirstMisframed, Unready}
+use Rattle.board.specs.Hear.{slot_at, IsFrame, Sole}
+use Rattle.board.specs.Ready.{AllHeard, SomeUnheard}
 use Rattle.board.specs.Station.{wired_at}
-use Rattle.board.specs.declared.fault.EarFault.{EarFault}
-use Rattle.board.specs.declared.fault.EarFault.TheVariants.{Weight, Frame, Alien, Unwired, Unheard, Room, Ear}
-use Rattle.board.specs.declared.fault.EarFault.TheVariants.{Record as BadRecord}
 use Rattle.board.specs.declared.ports.Ports.{Ports}
-use Rattle.board.specs.declared.states.Listening.{Listening}
 use Rattle.board.proofs.Weights.{wired_port}
 
 module _ {V : Type 0} (k : Kind V) where
@@ -41,34 +35,6 @@ module _ {V : Type 0} (k : Kind V) where
         code_is = refl;
       }) in
       record { told = f.tells.told; port = port; own_port = h; frame_is = sym whole ∙ f.tells.frame_is }
-
-  pub misread : (bytes fields : List ℕ) (f : FrameFault) → fields ≡ bytes → RecordHead bytes → Sole bytes → Unreadable k fields f → Misframed k bytes (Frame f)
-  misread bytes fields Short same head sole u = absurd u
-  misread bytes fields Extent same head sole u = absurd u
-  misread bytes fields Size same head sole u = absurd u
-  misread bytes fields Field same head sole u = (sole, (head, subst (λ x. Unreadable k x Field) same u))
-  misread bytes fields Code same head sole u = (sole, (head, subst (λ x. Unreadable k x Code) same u))
-
--- a wired slot with no record's frame keeps a board from being ready
-pub unready : {V : Type 0} (k : Kind V) (l : Listening V) (ear : List ℕ) (f : EarFault) → length ear ≡ 128 → AllHeard l.station.ports l.heard → FirstMisframed k l.station.ports ear f → Unready k l ear f
-unready k l ear (Frame f) long heard m = (long, heard, m)
-unready k l ear Alien long heard m = (long, heard, m)
-unready k l ear Weight long heard m = m.why
-unready k l ear BadRecord long heard m = m.why
-unready k l ear Unwired long heard m = m.why
-unready k l ear Unheard long heard m = absurd m.why
-unready k l ear Room long heard m = m.why
-unready k l ear Ear long heard m = absurd m.why
-
-and_true : (x : Bool) → (x && true) ≡ x
-and_true true = refl
-and_true false = refl
-
--- one port more was heard
-pub one_heard : (before after port : ℕ) → port < 8 → ((p : ℕ) → has after p ≡ (has before p || (eqb p port && ltb port 64))) → (p : ℕ) → has after p ≡ (has before p || eqb p port)
-one_heard before after port h w p =
-    let small : ltb port 64 ≡ true = lt-ltb port 64 (omega arith) in
-    w p ∙ ap (λ x. has before p || x) (ap (λ y. eqb p port && y) small ∙ and_true (eqb p port))
 
 -- the slot of a port is the chunk of that number
 pub chunk_at : (n p : ℕ) (ear : List ℕ) → p < n → get_or (first_chunks 16 n ear) p [] ≡ slot_at ear p

@@ -33,16 +33,20 @@ pub record FirstMisframed {V : Type 0} (k : Kind V) (s : Ports) (ear : List ℕ)
   pub before : FramesBelow k s ear port
   pub why : Misframed k (slot_at ear port) f
 
--- the wired slots are looked at: they all do, or what is wrong with the first that does not
+-- the wired slots are looked at: each holds the frame of a record, or this is wrong with the first that does not
 abbrev pub ChecksSlots : {V : Type 0} → Kind V → Ports → List ℕ → Result (Unit {0}) EarFault → Type 0
 ChecksSlots k s ear (Ok _) = FramesBelow k s ear 8
 ChecksSlots k s ear (Err f) = FirstMisframed k s ear f
 
+-- the ear is whole, every wired port was heard, and every wired slot holds a record's frame
+pub record Complete {V : Type 0} (k : Kind V) (l : Listening V) (ear : List ℕ) : Type 0 where
+  pub whole : length ear ≡ 128
+  pub heard : AllHeard l.station.ports l.heard
+  pub frames : FramesBelow k l.station.ports ear 8
+
 -- a board over this ear, whose wired ports were all heard and whose wired slots all hold a record's frame
 pub record IsReady {V : Type 0} (k : Kind V) (before : Listening V) (ear : List ℕ) (after : Ready V) : Type 0 where
-  pub whole : length ear ≡ 128
-  pub heard : AllHeard before.station.ports before.heard
-  pub frames : FramesBelow k before.station.ports ear 8
+  pub complete : Complete k before ear
   pub same : after.station ≡ before.station
   pub ear_is : after.ear.now ≡ ear
 
@@ -56,12 +60,6 @@ Unready k l ear Weight = ⊥
 Unready k l ear BadRecord = ⊥
 Unready k l ear Unwired = ⊥
 Unready k l ear Room = ⊥
-
--- the ear is whole, every wired port was heard, and every wired slot holds a record's frame
-pub record Complete {V : Type 0} (k : Kind V) (l : Listening V) (ear : List ℕ) : Type 0 where
-  pub whole : length ear ≡ 128
-  pub heard : AllHeard l.station.ports l.heard
-  pub frames : FramesBelow k l.station.ports ear 8
 
 -- the board and its ear are looked at: all is there, and the answer is the ear, or why the board is not ready
 abbrev pub ChecksReady : {V : Type 0} → Kind V → Listening V → List ℕ → Result (Bor (List ℕ)) EarFault → Type 0

@@ -9,7 +9,8 @@ use lengths::Length;
 use rules::{Move, Neighbourhood, Record, Seen, moved};
 use std::marker::PhantomData;
 
-// A neighbour's par names this cable where it is the port that the neighbour sent from.
+// A neighbour's par names this cable where it is the port that the neighbour sent from. (A private view of the ports and
+// the ear would hide `at`, but be one struct and one value more.)
 impl<'e, L: Length> Neighbourhood<L> for Ready<'e, L> {
     ghost seen = { λ s. seen_in L.Length.meaning s.station.ports s.ear.now };
 

@@ -9,11 +9,14 @@ use crate::station::Station;
 use lengths::Length;
 use rules::{Record, Status};
 
-// Whether the weight of every wired port is admitted.
+// Whether the weight of every wired port is admitted. (A closure stands there, since no proof is made yet of
+// `is_none_or(L::admits)`: a trait's method does not fit the bound.)
 fn admitted<L: Length>(weights: [Option<u32>; 8]) -> bool
     ensures { MatchBool result (AllAdmitted L.Length.meaning weights) (SomeUnadmitted L.Length.meaning weights) }
 {
-    weights.iter().all(|weight| weight.is_none_or(|weight| L::admits(weight)))
+    weights
+        .iter()
+        .all(|weight| weight.is_none_or(|weight| L::admits(weight)))
 }
 
 // A board with a record that is given as numbers.
@@ -77,7 +80,7 @@ impl<L: Length> Listening<L> {
         Ok(Listening::anew(station))
     }
 
-    // The board's record.
+    // The board's record. Each state has a method of its own for it, one call each, since the three are separate types.
     pub fn own(&self) -> Record<L>
         ensures { result ≡ own_of L.Length.meaning self.now.station }
     {

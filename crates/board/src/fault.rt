@@ -28,8 +28,8 @@ pub enum EarFault {
 impl From<FrameFault> for EarFault {
     ghost from_gives = { λ fault why. why ≡ Frame fault };
 
-    fn from(fault: FrameFault) -> EarFault {
-        EarFault::Frame(fault)
+    fn from(why: FrameFault) -> EarFault {
+        EarFault::Frame(why)
     }
 }
 

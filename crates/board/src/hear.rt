@@ -20,20 +20,14 @@ pub(crate) fn check_frame<L: Length>(bytes: &[u8]) -> Result<(), EarFault>
     Ok(())
 }
 
-// Where the slot of a port starts in an ear.
-pub(crate) fn slot_start(port: u32) -> usize
-    ensures { result ≡ 16 * port }
-{
-    16 * port as usize
-}
-
-// Puts a frame into the slot of a port.
+// Puts a frame into the slot of a port. (The ear is a slice here: as an array it would be converted again after the
+// checks, with a refusal that cannot come.)
 fn put_frame(ear: &mut [u8], port: u32, frame: &[u8])
     requires room { 16 * port + 16 ≤ length ear.old }
     requires frame { length frame.now ≡ 16 }
     ensures { ear.new ≡ put ear.old port frame.now }
 {
-    let start = slot_start(port);
+    let start = 16 * port as usize;
     ear[start..start + 16].copy_from_slice(frame);
 }
 

@@ -9,7 +9,7 @@ use Rattle.rules.specs.Status.{number_of}
 use Rattle.rules.specs.declared.record.Record.{Record}
 use Rattle.rules.specs.declared.record.Status.{Status}
 use Rattle.rules.specs.declared.record.Status.TheVariants.{I, C, EB, EF}
-use Rattle.frames.specs.Record.{eight_bytes, body_of, frame_of, Fields, code_in, Unreadable, Accepted, Refused, Reads, Written}
+use Rattle.frames.specs.Record.{status_of, eight_bytes, body_of, frame_of, Fields, code_in, Unreadable, Accepted, Refused, Reads, Written}
 use Rattle.frames.specs.declared.fault.FrameFault.{FrameFault}
 use Rattle.frames.specs.declared.fault.FrameFault.TheVariants.{Short, Extent, Size, Field, Code}
 use Rattle.frames.specs.declared.sent.Sent.{Sent}
@@ -21,13 +21,8 @@ status_small C = omega arith
 status_small EB = omega arith
 status_small EF = omega arith
 
-abbrev pub status_of : ℕ → Status
-status_of zero = I
-status_of (suc zero) = C
-status_of (suc (suc zero)) = EB
-status_of (suc (suc (suc n))) = EF
-
-status_back : (s : Status) → status_of (number_of s) ≡ s
+-- a status is that of its number
+pub status_back : (s : Status) → status_of (number_of s) ≡ s
 status_back I = refl
 status_back C = refl
 status_back EB = refl

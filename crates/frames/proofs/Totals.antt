@@ -5,13 +5,13 @@ use Rattle.std.proofs.lemmas.List.{length-take-le, length-drop, get_or-drop, nil
 use Rattle.lengths.specs.Kind.{Kind, Laws}
 use Rattle.rules.specs.Status.{number_of}
 use Rattle.rules.specs.declared.record.Record.{Record}
-use Rattle.frames.specs.Record.{Fields, code_in}
+use Rattle.frames.specs.Record.{status_of, Fields, code_in}
 use Rattle.frames.specs.Head.{head_length, head_kind, Whole}
 use Rattle.frames.specs.Stream.{Told, recorded, unknown, End, ended, stopped, RecordHead, Damage, First, Stands, Small, Meant}
 use Rattle.frames.specs.declared.fault.FrameFault.{FrameFault}
 use Rattle.frames.specs.declared.fault.FrameFault.TheVariants.{Short, Extent, Size, Field, Code}
 use Rattle.frames.proofs.Fronts.{alike, front_record, front_other}
-use Rattle.frames.proofs.Records.{status_of, status_of_any, body_read}
+use Rattle.frames.proofs.Records.{status_of_any, body_read}
 use Rattle.frames.proofs.Streams.{fields_alike, code_alike, first_size, unique}
 
 -- what bytes begin with: a frame, or a fault

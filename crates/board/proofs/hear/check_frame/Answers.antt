@@ -1,4 +1,4 @@
-use Rattle.std.proofs.Common.{◌≡◌, ℕ, ◌<◌, get_or, sym, ◌∙◌, arith, rules}
+use Rattle.std.proofs.Common.{◌≡◌, ℕ, ◌<◌, get_or, rules}
 use Rattle.frames.specs.Stream.{RecordHead}
 use Rattle.board.specs.Hear.{Sole}
 use Rattle.board.proofs.Slots.{is_frame}
