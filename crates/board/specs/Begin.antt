@@ -24,16 +24,6 @@ AllAdmitted k weights = (p : ℕ) → fine k (slice_index_or weights p None) ≡
 abbrev pub SomeUnadmitted : {V : Type 0} → Kind V → List (Option ℕ) → Type 0
 SomeUnadmitted k weights = (p : ℕ) × (fine k (slice_index_or weights p None) ≡ false)
 
--- a board that is not the root, with these ports and the record of these numbers
-pub record StationIs {V : Type 0} (k : Kind V) (s p c : ℕ) (ports : Ports) (made : Station) : Type 0 where
-  pub common : made.root ≡ false
-  pub ports_are : made.ports ≡ ports
-  pub own : Numbered k s p c (own_of k made)
-
-abbrev pub ReadsStation : {V : Type 0} → Kind V → ℕ → ℕ → ℕ → Ports → Option Station → Type 0
-ReadsStation k s p c ports None = is_no_record k s p c ≡ true
-ReadsStation k s p c ports (Some made) = (is_no_record k s p c ≡ false) × StationIs k s p c ports made
-
 -- the record that a board begins with: the root's whatever the numbers, and else that of the numbers
 abbrev pub FirstRecord : {V : Type 0} → Kind V → Bool → ℕ → ℕ → ℕ → Record V → Type 0
 FirstRecord k true s p c own = own ≡ root_of k

@@ -1,10 +1,11 @@
 -- Hearing a frame: what an ear holds, which bytes are a record's frame, and what hear does.
-use Rattle.std.specs.Prelude.{◌≡◌, ℕ, ◌*◌, ◌≤◌, true, false, ◌||◌, ◌≢◌, List, ◌++◌, length, take, drop, Some, None, Ok, Err, Option, Result, ◌==◌}
+use Rattle.std.specs.Prelude.{◌≡◌, ℕ, ◌*◌, ◌≤◌, true, false, ◌||◌, ◌≢◌, List, ◌++◌, length, take, drop, Ok, Err, Result, ◌==◌}
 use Rattle.lengths.specs.Kind.{Kind}
 use Rattle.rules.specs.declared.record.Record.{Record}
 use Rattle.sets.specs.Sets.{has}
 use Rattle.frames.specs.Record.{frame_of}
-use Rattle.frames.specs.Stream.{head_length, head_kind, Whole, Damage}
+use Rattle.frames.specs.Head.{head_length, head_kind, Whole}
+use Rattle.frames.specs.Stream.{Damage}
 use Rattle.frames.specs.declared.fault.FrameFault.TheVariants.{Short, Extent, Size, Field, Code}
 use Rattle.board.specs.Station.{wired_at}
 use Rattle.board.specs.declared.fault.EarFault.{EarFault}
@@ -47,9 +48,10 @@ Misframed k bytes Unheard = ⊥
 Misframed k bytes Room = ⊥
 Misframed k bytes Ear = ⊥
 
-abbrev pub ChecksFrame : {V : Type 0} → Kind V → List ℕ → Option EarFault → Type 0
-ChecksFrame k bytes None = IsFrame k bytes
-ChecksFrame k bytes (Some f) = Misframed k bytes f
+-- the bytes are looked at: a record's frame, or what keeps them from being one
+abbrev pub ChecksFrame : {V : Type 0} → Kind V → List ℕ → Result (Unit {0}) EarFault → Type 0
+ChecksFrame k bytes (Ok _) = IsFrame k bytes
+ChecksFrame k bytes (Err f) = Misframed k bytes f
 
 -- one port more was heard, and nothing else is new
 pub record HeardOne {V : Type 0} (before : Listening V) (port : ℕ) (after : Listening V) : Type 0 where
@@ -70,6 +72,11 @@ Unhearable k l ear port frame Weight = ⊥
 Unhearable k l ear port frame BadRecord = ⊥
 Unhearable k l ear port frame Unheard = ⊥
 Unhearable k l ear port frame Room = ⊥
+
+-- a frame is looked at before it is heard
+abbrev pub ChecksHearing : {V : Type 0} → Kind V → Listening V → List ℕ → ℕ → List ℕ → Result (Unit {0}) EarFault → Type 0
+ChecksHearing k l ear port frame (Ok _) = Audible l ear port × IsFrame k frame
+ChecksHearing k l ear port frame (Err f) = Unhearable k l ear port frame f
 
 -- hear
 abbrev pub Hears : {V : Type 0} → Kind V → Listening V → List ℕ → ℕ → List ℕ → Result (Listening V) (Listening V × EarFault) → List ℕ → Type 0

@@ -1,26 +1,17 @@
 -- What a board end sees through its ear, and its move.
-use Rattle.std.specs.Prelude.{◌≡◌, ℕ, zero, suc, ◌<◌, Bool, true, false, cond, ◌&&◌, List, Some, None, Option, ◌==◌, nat_le, slice_index}
+use Rattle.std.specs.Prelude.{◌≡◌, ℕ, ◌<◌, Bool, true, false, cond, ◌&&◌, List, Some, None, Option, ◌==◌, nat_le, slice_index}
 use Rattle.lengths.specs.Kind.{Kind}
 use Rattle.rules.specs.Rules.{Moves}
 use Rattle.rules.specs.declared.neighbourhood.Seen.{Seen}
 use Rattle.rules.specs.declared.record.Record.{Record}
-use Rattle.rules.specs.declared.status.Status.{Status}
-use Rattle.rules.specs.declared.status.Status.TheVariants.{I, C, EB, EF}
 use Rattle.network.specs.declared.End.{End}
 use Rattle.hall.specs.Hall.{MoveOn}
-use Rattle.frames.specs.Record.{frame_of, code_in}
+use Rattle.frames.specs.Record.{status_of, frame_of, code_in}
 use Rattle.board.specs.Hear.{slot_at}
 use Rattle.board.specs.Station.{weight_at, own_of}
 use Rattle.board.specs.declared.ports.Ports.{Ports}
 use Rattle.board.specs.declared.states.Owing.{Owing}
 use Rattle.board.specs.declared.states.Ready.{Ready}
-
--- the status that a number up to 3 stands for
-abbrev pub status_of : ℕ → Status
-status_of zero = I
-status_of (suc zero) = C
-status_of (suc (suc zero)) = EB
-status_of (suc (suc (suc n))) = EF
 
 -- whether a slot's status, port and byte 7 are those of a record's frame
 abbrev pub legible : List ℕ → Bool

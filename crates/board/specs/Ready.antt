@@ -1,5 +1,6 @@
 -- When a board end is ready to move.
-use Rattle.std.specs.Prelude.{◌≡◌, ℕ, ◌<◌, true, false, ◌≢◌, List, length, Some, None, Ok, Err, Option, Result}
+use Rattle.std.specs.Prelude.{◌≡◌, ℕ, ◌<◌, true, false, ◌≢◌, List, length, Ok, Err, Result}
+use Rattle.std.specs.Borrow.{Bor}
 use Rattle.lengths.specs.Kind.{Kind}
 use Rattle.sets.specs.Sets.{has}
 use Rattle.board.specs.Hear.{slot_at, IsFrame, Misframed}
@@ -32,15 +33,20 @@ pub record FirstMisframed {V : Type 0} (k : Kind V) (s : Ports) (ear : List ℕ)
   pub before : FramesBelow k s ear port
   pub why : Misframed k (slot_at ear port) f
 
-abbrev pub ChecksSlots : {V : Type 0} → Kind V → Ports → List ℕ → Option EarFault → Type 0
-ChecksSlots k s ear None = FramesBelow k s ear 8
-ChecksSlots k s ear (Some f) = FirstMisframed k s ear f
+-- the wired slots are looked at: each holds the frame of a record, or this is wrong with the first that does not
+abbrev pub ChecksSlots : {V : Type 0} → Kind V → Ports → List ℕ → Result (Unit {0}) EarFault → Type 0
+ChecksSlots k s ear (Ok _) = FramesBelow k s ear 8
+ChecksSlots k s ear (Err f) = FirstMisframed k s ear f
+
+-- the ear is whole, every wired port was heard, and every wired slot holds a record's frame
+pub record Complete {V : Type 0} (k : Kind V) (l : Listening V) (ear : List ℕ) : Type 0 where
+  pub whole : length ear ≡ 128
+  pub heard : AllHeard l.station.ports l.heard
+  pub frames : FramesBelow k l.station.ports ear 8
 
 -- a board over this ear, whose wired ports were all heard and whose wired slots all hold a record's frame
 pub record IsReady {V : Type 0} (k : Kind V) (before : Listening V) (ear : List ℕ) (after : Ready V) : Type 0 where
-  pub whole : length ear ≡ 128
-  pub heard : AllHeard before.station.ports before.heard
-  pub frames : FramesBelow k before.station.ports ear 8
+  pub complete : Complete k before ear
   pub same : after.station ≡ before.station
   pub ear_is : after.ear.now ≡ ear
 
@@ -54,6 +60,11 @@ Unready k l ear Weight = ⊥
 Unready k l ear BadRecord = ⊥
 Unready k l ear Unwired = ⊥
 Unready k l ear Room = ⊥
+
+-- the board and its ear are looked at: all is there, and the answer is the ear, or why the board is not ready
+abbrev pub ChecksReady : {V : Type 0} → Kind V → Listening V → List ℕ → Result (Bor (List ℕ)) EarFault → Type 0
+ChecksReady k l ear (Ok lent) = Complete k l ear × (lent.now ≡ ear)
+ChecksReady k l ear (Err f) = Unready k l ear f
 
 -- ready
 abbrev pub Readies : {V : Type 0} → Kind V → Listening V → List ℕ → Result (Ready V) (Listening V × EarFault) → Type 0

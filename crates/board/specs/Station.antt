@@ -38,10 +38,10 @@ length_or start (Some length) = length
 abbrev pub own_of : {V : Type 0} → Kind V → Station → Record V
 own_of k s = cond s.root (root_of k) (record { status = s.status; par = s.par; length = length_or k.start (k.decoded s.code) })
 
--- the same board with this record, its length by its code
-pub record Rewritten {V : Type 0} (k : Kind V) (before : Station) (own : Record V) (after : Station) : Type 0 where
-  pub root_is : after.root ≡ before.root
-  pub status_is : after.status ≡ own.status
-  pub par_is : after.par ≡ own.par
-  pub code_is : after.code ≡ k.coded own.length
-  pub ports_are : after.ports ≡ before.ports
+-- a board in numbers: the root or not, with this record, its length by its code, and these ports
+pub record Stands {V : Type 0} (k : Kind V) (root : Bool) (own : Record V) (ports : Ports) (made : Station) : Type 0 where
+  pub root_is : made.root ≡ root
+  pub status_is : made.status ≡ own.status
+  pub par_is : made.par ≡ own.par
+  pub code_is : made.code ≡ k.coded own.length
+  pub ports_are : made.ports ≡ ports

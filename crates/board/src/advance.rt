@@ -2,24 +2,23 @@ ghost use Rattle.std.specs.Prelude.{◌≡◌};
 ghost use Rattle.board.specs.Station.{own_of};
 ghost use Rattle.board.specs.Move.{seen_in, Advances, AsInHall};
 
-use crate::ready::slot;
+use crate::ready::slots;
 use crate::states::{Owing, Ready};
+use crate::station::Station;
 use frames::read_record;
 use lengths::Length;
-use rules::{Move, Neighbourhood, Record, Seen, moved};
+use rules::{Board, Move, Neighbourhood, Record, Seen};
 use std::marker::PhantomData;
 
-// A neighbour's par names this cable where it is the port that the neighbour sent from.
+// A neighbour's par names this cable where it is the port that the neighbour sent from. (A private view of the ports and
+// the ear would hide `at`, but be one struct and one value more.)
 impl<'e, L: Length> Neighbourhood<L> for Ready<'e, L> {
     ghost seen = { λ s. seen_in L.Length.meaning s.station.ports s.ear.now };
 
     fn at(&self, port: u8) -> Option<Seen<L>> {
         let weight = self.station.ports.weight(u32::from(port))?;
-        let ear = self.ear;
-        let fields = slot(ear, u32::from(port)).first_chunk::<16>()?;
-        let Ok(sent) = read_record::<L>(fields) else {
-            return None;
-        };
+        let fields = slots(self.ear).get(usize::from(port))?;
+        let sent = read_record::<L>(fields).ok()?;
         Some(Seen {
             status: sent.record.status,
             length: sent.record.length,
@@ -49,9 +48,13 @@ impl<'e, L: Length> Ready<'e, L> {
                 kind: PhantomData,
             };
         }
-        let Move { verdict, record } = moved(self.own(), &self);
+        let board = Board {
+            own: self.own(),
+            near: &self,
+        };
+        let Move { verdict, record } = board.moved();
         Owing {
-            station: self.station.with(record),
+            station: Station::of(false, record, self.station.ports),
             verdict,
             kind: PhantomData,
         }

@@ -1,54 +1,22 @@
 ghost use Rattle.std.specs.Prelude.{◌≡◌, MatchBool};
 ghost use Rattle.board.specs.Station.{own_of};
-ghost use Rattle.board.specs.Begin.{fine, AllAdmitted, SomeUnadmitted, ReadsStation, FirstStation, Begins};
+ghost use Rattle.board.specs.Begin.{AllAdmitted, SomeUnadmitted, FirstStation, Begins};
 
 use crate::fault::EarFault;
 use crate::ports::Ports;
 use crate::states::Listening;
 use crate::station::Station;
 use lengths::Length;
-use rules::{Record, Status};
+use rules::Record;
 
-// Whether a port may have this weight; one that is not wired has none.
-fn fits<L: Length>(weight: Option<u32>) -> bool
-    ensures { result ≡ fine L.Length.meaning weight }
-{
-    match weight {
-        Some(weight) => L::admits(weight),
-        None => true,
-    }
-}
-
-// Whether the weight of every wired port is admitted.
+// Whether the weight of every wired port is admitted. (A closure stands there, since no proof is made yet of
+// `is_none_or(L::admits)`: a trait's method does not fit the bound.)
 fn admitted<L: Length>(weights: [Option<u32>; 8]) -> bool
     ensures { MatchBool result (AllAdmitted L.Length.meaning weights) (SomeUnadmitted L.Length.meaning weights) }
 {
-    for port in 0..8usize {
-        if !fits::<L>(weights[port]) {
-            return false;
-        }
-    }
-    true
-}
-
-// A board with a record that is given as numbers.
-fn read_station<L: Length>(status: u32, par: u32, code: u64, ports: Ports) -> Option<Station>
-    ensures { ReadsStation L.Length.meaning status par code ports result }
-{
-    let status = Status::numbered(status)?;
-    let Ok(par) = u8::try_from(par) else {
-        return None;
-    };
-    let Some(_) = L::read(code) else {
-        return None;
-    };
-    Some(Station {
-        root: false,
-        status,
-        par,
-        code,
-        ports,
-    })
+    weights
+        .iter()
+        .all(|weight| weight.is_none_or(|weight| L::admits(weight)))
 }
 
 // The board as it begins: the root's record is not read.
@@ -61,16 +29,12 @@ fn first_station<L: Length>(
 ) -> Option<Station>
     ensures { FirstStation L.Length.meaning root status par code ports result }
 {
-    if !root {
-        return read_station::<L>(status, par, code, ports);
-    }
-    Some(Station {
-        root,
-        status: Status::C,
-        par: 255,
-        code: L::start().code(),
-        ports,
-    })
+    let own = if root {
+        Record::<L>::root()
+    } else {
+        Record::read(status, par, code)?
+    };
+    Some(Station::of(root, own, ports))
 }
 
 impl<L: Length> Listening<L> {
@@ -88,13 +52,11 @@ impl<L: Length> Listening<L> {
             return Err(EarFault::Weight);
         }
         let ports = Ports::new(weights);
-        let Some(station) = first_station::<L>(root, status, par, code, ports) else {
-            return Err(EarFault::Record);
-        };
+        let station = first_station::<L>(root, status, par, code, ports).ok_or(EarFault::Record)?;
         Ok(Listening::anew(station))
     }
 
-    // The board's record.
+    // The board's record. Each state has a method of its own for it, one call each, since the three are separate types.
     pub fn own(&self) -> Record<L>
         ensures { result ≡ own_of L.Length.meaning self.now.station }
     {

@@ -1,10 +1,11 @@
 ghost use Rattle.std.specs.Prelude.{◌≡◌};
 ghost use Rattle.board.specs.Faults.{ear_fault_number};
+ghost use Rattle.board.specs.declared.fault.EarFault.TheVariants.{Frame};
 
 use frames::FrameFault;
 
 // Why a board end refuses a call.
-#[derive(Clone, Copy)]
+#[derive(Clone, Copy, Debug, PartialEq, Eq)]
 pub enum EarFault {
     // the weight of a wired port is not admitted
     Weight,
@@ -24,15 +25,23 @@ pub enum EarFault {
     Ear,
 }
 
-impl EarFault {
-    // The number that a refusal returns.
-    pub fn number(self) -> u32
-        ensures { result ≡ ear_fault_number self }
-    {
-        match self {
+impl From<FrameFault> for EarFault {
+    ghost from_gives = { λ fault why. why ≡ Frame fault };
+
+    fn from(why: FrameFault) -> EarFault {
+        EarFault::Frame(why)
+    }
+}
+
+// The number that a refusal returns.
+impl From<EarFault> for u32 {
+    ghost from_gives = { λ fault number. number ≡ ear_fault_number fault };
+
+    fn from(fault: EarFault) -> u32 {
+        match fault {
             EarFault::Weight => 7,
             EarFault::Record => 9,
-            EarFault::Frame(fault) => fault.number(),
+            EarFault::Frame(fault) => u32::from(fault),
             EarFault::Alien => 25,
             EarFault::Unwired => 26,
             EarFault::Unheard => 27,

@@ -1,61 +1,50 @@
 ghost use Rattle.std.specs.Prelude.{◌≡◌, ◌+◌, ◌*◌, ◌≤◌, length};
-ghost use Rattle.board.specs.Hear.{put, ChecksFrame, Hears};
+ghost use Rattle.board.specs.Hear.{put, ChecksFrame, ChecksHearing, Hears};
 
 use crate::fault::EarFault;
 use crate::states::Listening;
-use frames::{FrameFault, read_record};
+use frames::{FrameFault, Head, RECORD, read_head, read_record};
 use lengths::Length;
 use sets::with;
-use std::marker::PhantomData;
 
-// The kind of a record frame.
-const RECORD: u16 = 1;
-
-// What keeps bytes from being a record's frame and nothing else, if anything does.
-pub(crate) fn frame_fault<L: Length>(bytes: &[u8]) -> Option<EarFault>
+// Whether bytes are a record's frame and nothing else, or what keeps them from being one.
+pub(crate) fn check_frame<L: Length>(bytes: &[u8]) -> Result<(), EarFault>
     ensures { ChecksFrame L.Length.meaning bytes.now result }
 {
-    if bytes.len() < 4 {
-        return Some(EarFault::Frame(FrameFault::Short));
-    }
-    let size = usize::from(u16::from_le_bytes([bytes[0], bytes[1]]));
-    let kind = u16::from_le_bytes([bytes[2], bytes[3]]);
-    if size < 4 || size > bytes.len() {
-        return Some(EarFault::Frame(FrameFault::Extent));
-    }
+    let Head { size, kind } = read_head(bytes)?;
     if kind != RECORD || size < bytes.len() {
-        return Some(EarFault::Alien);
+        return Err(EarFault::Alien);
     }
-    if size != 16 {
-        return Some(EarFault::Frame(FrameFault::Size));
-    }
-    let Some(fields) = bytes.first_chunk::<16>() else {
-        return Some(EarFault::Frame(FrameFault::Size));
-    };
-    match read_record::<L>(fields) {
-        Ok(_) => None,
-        Err(fault) => Some(EarFault::Frame(fault)),
-    }
+    let fields = bytes.as_array::<16>().ok_or(FrameFault::Size)?;
+    read_record::<L>(fields)?;
+    Ok(())
 }
 
-// Where the slot of a port starts in an ear.
-pub(crate) fn slot_start(port: u32) -> usize
-    ensures { result ≡ 16 * port }
-{
-    16 * port as usize
-}
-
-// Puts a frame into the slot of a port.
+// Puts a frame into the slot of a port. (The ear is a slice here: as an array it would be converted again after the
+// checks, with a refusal that cannot come.)
 fn put_frame(ear: &mut [u8], port: u32, frame: &[u8])
     requires room { 16 * port + 16 ≤ length ear.old }
     requires frame { length frame.now ≡ 16 }
     ensures { ear.new ≡ put ear.old port frame.now }
 {
-    let start = slot_start(port);
+    let start = 16 * port as usize;
     ear[start..start + 16].copy_from_slice(frame);
 }
 
 impl<L: Length> Listening<L> {
+    // Whether a frame can be heard at a port: the ear, then the port, then the frame.
+    fn check_hearing(&self, ear: &[u8], port: u32, frame: &[u8]) -> Result<(), EarFault>
+        ensures { ChecksHearing L.Length.meaning self.now ear.now port frame.now result }
+    {
+        if ear.len() != 128 {
+            return Err(EarFault::Ear);
+        }
+        if !self.station.ports.wired(port) {
+            return Err(EarFault::Unwired);
+        }
+        check_frame::<L>(frame)
+    }
+
     // Hears the record frame that came in at a port: puts it into the port's slot of the ear.
     pub fn hear(
         self,
@@ -65,20 +54,13 @@ impl<L: Length> Listening<L> {
     ) -> Result<Listening<L>, (Listening<L>, EarFault)>
         ensures { Hears L.Length.meaning self ear.old port frame.now result ear.new }
     {
-        if ear.len() != 128 {
-            return Err((self, EarFault::Ear));
-        }
-        if !self.station.ports.wired(port) {
-            return Err((self, EarFault::Unwired));
-        }
-        if let Some(fault) = frame_fault::<L>(frame) {
+        if let Err(fault) = self.check_hearing(ear, port, frame) {
             return Err((self, fault));
         }
         put_frame(ear, port, frame);
         Ok(Listening {
-            station: self.station,
             heard: with(self.heard, port),
-            kind: PhantomData,
+            ..self
         })
     }
 }

@@ -1,73 +1,67 @@
-ghost use Rattle.std.specs.Prelude.{◌≡◌, ◌<◌, length, MatchBool};
+ghost use Rattle.std.specs.Prelude.{◌≡◌, ℕ, ◌<◌, [], length, slice_index_or, MatchBool};
 ghost use Rattle.board.specs.Hear.{slot_at};
-ghost use Rattle.board.specs.Ready.{AllHeard, SomeUnheard, ChecksSlots, Readies};
+ghost use Rattle.board.specs.Ready.{AllHeard, SomeUnheard, ChecksSlots, ChecksReady, Readies};
 
 use crate::fault::EarFault;
-use crate::hear::{frame_fault, slot_start};
+use crate::hear::check_frame;
 use crate::ports::Ports;
 use crate::states::{Listening, Ready};
 use lengths::Length;
 use sets::contains;
 use std::marker::PhantomData;
 
-// The slot of a port.
-pub(crate) fn slot(ear: &[u8], port: u32) -> &[u8]
-    requires whole { length ear.now ≡ 128 }
-    requires port { port < 8 }
-    ensures { result.now ≡ slot_at ear.now port }
+// The slots of the ports.
+pub(crate) fn slots(ear: &[u8; 128]) -> &[[u8; 16]]
+    ensures eight { length result.now ≡ 8 }
+    ensures each { (p : ℕ) → p < 8 → slice_index_or result.now p [] ≡ slot_at ear.now p }
 {
-    let start = slot_start(port);
-    &ear[start..start + 16]
+    let (slots, _) = ear.as_chunks::<16>();
+    slots
 }
 
 // Whether every wired port was heard.
 fn all_heard(ports: Ports, heard: u64) -> bool
     ensures { MatchBool result (AllHeard ports heard) (SomeUnheard ports heard) }
 {
-    for port in 0..8u32 {
-        if ports.wired(port) && !contains(heard, port) {
-            return false;
-        }
-    }
-    true
+    (0..8).all(|port| !ports.wired(port) || contains(heard, port))
 }
 
-// What is wrong with the first wired slot that holds no record's frame, if one does not.
-fn slots_fault<L: Length>(ports: Ports, ear: &[u8]) -> Option<EarFault>
-    requires { length ear.now ≡ 128 }
+// Whether every wired slot holds a record's frame, or what is wrong with the first that does not.
+fn check_slots<L: Length>(ports: Ports, ear: &[u8; 128]) -> Result<(), EarFault>
     ensures { ChecksSlots L.Length.meaning ports ear.now result }
 {
-    for port in 0..8u32 {
-        if ports.wired(port) {
-            if let Some(fault) = frame_fault::<L>(slot(ear, port)) {
-                return Some(fault);
-            }
+    for (port, slot) in slots(ear).iter().enumerate() {
+        if ports.wired(port as u32) {
+            check_frame::<L>(slot)?;
         }
     }
-    None
+    Ok(())
 }
 
 impl<L: Length> Listening<L> {
+    // The whole ear, where the board may move by it: its size, then the ports, then the slots.
+    fn check_ready<'e>(&self, ear: &'e [u8]) -> Result<&'e [u8; 128], EarFault>
+        ensures { ChecksReady L.Length.meaning self.now ear.now result }
+    {
+        let whole = ear.as_array::<128>().ok_or(EarFault::Ear)?;
+        if !all_heard(self.station.ports, self.heard) {
+            return Err(EarFault::Unheard);
+        }
+        check_slots::<L>(self.station.ports, whole)?;
+        Ok(whole)
+    }
+
     // Makes the board ready to move by what it heard, and looks at the slots again, since others may have written there.
     pub fn ready<'e>(self, ear: &'e [u8]) -> Result<Ready<'e, L>, (Listening<L>, EarFault)>
         ensures { Readies L.Length.meaning self ear.now result }
     {
-        if ear.len() != 128 {
-            return Err((self, EarFault::Ear));
+        match self.check_ready(ear) {
+            Ok(ear) => Ok(Ready {
+                station: self.station,
+                ear,
+                kind: PhantomData,
+            }),
+            Err(fault) => Err((self, fault)),
         }
-        let Some(whole) = ear.first_chunk::<128>() else {
-            return Err((self, EarFault::Ear));
-        };
-        if !all_heard(self.station.ports, self.heard) {
-            return Err((self, EarFault::Unheard));
-        }
-        if let Some(fault) = slots_fault::<L>(self.station.ports, ear) {
-            return Err((self, fault));
-        }
-        Ok(Ready {
-            station: self.station,
-            ear: whole,
-            kind: PhantomData,
-        })
     }
 }

@@ -1,5 +1,5 @@
 ghost use Rattle.std.specs.Prelude.{◌≡◌};
-ghost use Rattle.board.specs.Station.{own_of, Rewritten};
+ghost use Rattle.board.specs.Station.{own_of, Stands};
 
 use crate::ports::Ports;
 use lengths::Length;
@@ -16,31 +16,9 @@ pub(crate) struct Station {
 }
 
 impl Station {
-    // The board's record. The root's is always C, 255 and the start.
-    pub(crate) fn own<L: Length>(self) -> Record<L>
-        ensures { result ≡ own_of L.Length.meaning self }
-    {
-        if self.root {
-            return Record {
-                status: Status::C,
-                par: 255,
-                length: L::start(),
-            };
-        }
-        let length = match L::read(self.code) {
-            Some(length) => length,
-            None => L::start(),
-        };
-        Record {
-            status: self.status,
-            par: self.par,
-            length,
-        }
-    }
-
-    // The board with another record.
-    pub(crate) fn with<L: Length>(self, own: Record<L>) -> Station
-        ensures { Rewritten L.Length.meaning self own result }
+    // A board in numbers, from its record.
+    pub(crate) fn of<L: Length>(root: bool, own: Record<L>, ports: Ports) -> Station
+        ensures { Stands L.Length.meaning root own ports result }
     {
         let Record {
             status,
@@ -48,11 +26,25 @@ impl Station {
             length,
         } = own;
         Station {
-            root: self.root,
+            root,
             status,
             par,
             code: length.code(),
-            ports: self.ports,
+            ports,
+        }
+    }
+
+    // The board's record. The root's is always C, 255 and the start.
+    pub(crate) fn own<L: Length>(self) -> Record<L>
+        ensures { result ≡ own_of L.Length.meaning self }
+    {
+        if self.root {
+            return Record::root();
+        }
+        Record {
+            status: self.status,
+            par: self.par,
+            length: L::read(self.code).unwrap_or(L::start()),
         }
     }
 }

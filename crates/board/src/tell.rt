@@ -14,45 +14,7 @@ use rules::{Record, Verdict};
 fn tell_size(ports: Ports) -> usize
     ensures { result ≡ tell_size ports }
 {
-    let mut wired = 0;
-    for port in 0..8u32 {
-        if ports.wired(port) {
-            wired += 1;
-        }
-    }
-    16 * wired
-}
-
-// Writes the frame of a record for a port.
-fn write_port<L: Length>(own: Record<L>, port: u8, out: &mut [u8], start: usize)
-    requires port { port < 8 }
-    requires room { start + 16 ≤ length out.old }
-    ensures { out.new ≡ take start out.old ++ (frame_of L.Length.meaning own port ++ drop (start + 16) out.old) }
-{
-    if let Some(frame) = write_frame(own, port) {
-        out[start..start + 16].copy_from_slice(&frame);
-    }
-}
-
-// Writes the frame for a port behind those of the lower ports, where it is wired; the answer is how many bytes there are now.
-fn tell_port<L: Length>(
-    own: Record<L>,
-    ports: Ports,
-    port: u8,
-    out: &mut [u8],
-    size: usize,
-) -> usize
-    requires port { port < 8 }
-    requires room { tell_size ports ≤ length out.old }
-    requires size { size ≡ 16 * wired_below ports port }
-    ensures size { result ≡ 16 * wired_below ports (port + 1) }
-    ensures out { (first : List ℕ) → out.old ≡ frames_below L.Length.meaning own ports port ++ drop size first → out.new ≡ frames_below L.Length.meaning own ports (port + 1) ++ drop result first }
-{
-    if !ports.wired(u32::from(port)) {
-        return size;
-    }
-    write_port(own, port, out, size);
-    size + 16
+    16 * (0..8).filter(|port| ports.wired(*port)).count()
 }
 
 // Writes a frame of the record for each wired port, one behind the other.
@@ -63,7 +25,12 @@ fn write_frames<L: Length>(own: Record<L>, ports: Ports, out: &mut [u8]) -> usiz
 {
     let mut size = 0;
     for port in 0..8u8 {
-        size = tell_port(own, ports, port, out, size);
+        if ports.wired(u32::from(port))
+            && let Some(frame) = write_frame(own, port)
+        {
+            out[size..size + 16].copy_from_slice(&frame);
+            size += 16;
+        }
     }
     size
 }

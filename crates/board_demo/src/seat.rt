@@ -124,7 +124,7 @@ pub(crate) fn act(rt: &HostRuntime, seat: Seat) -> io::Result<Seat> {
     let (size, board, moved) = match board.ready(&ear) {
         Ok(ready) => go(rt, number, ready, &mut told)?,
         Err((board, fault)) => {
-            let fault = fault.number();
+            let fault = u32::from(fault);
             println!(rt; "  board {number} is not ready: {fault}")?;
             (size, board, false)
         }
@@ -171,7 +171,7 @@ pub(crate) fn hear(rt: &HostRuntime, seat: Seat, port: u8, frame: [u8; 16]) -> i
     let board = match board.hear(&mut ear, u32::from(port), &frame) {
         Ok(board) => board,
         Err((board, fault)) => {
-            let fault = fault.number();
+            let fault = u32::from(fault);
             println!(rt; "  and refuses it: {fault}")?;
             board
         }

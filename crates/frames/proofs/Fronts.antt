@@ -1,35 +1,20 @@
 -- The frame at the front of some bytes, put together from its head and its body.
-use Rattle.std.proofs.Common.{◌≡◌, ℕ, ◌<◌, ◌≤◌, ◌≢◌, List, ◌∷◌, length, get_or, take, drop, sym, ap, ◌∙◌, subst, arith, drop-cons}
+use Rattle.std.proofs.Common.{◌≡◌, ℕ, ◌<◌, ◌≤◌, ◌≢◌, List, length, get_or, take, sym, ◌∙◌, arith}
 use Rattle.std.proofs.lemmas.List.{length-take-le, get_or-take}
 use Rattle.lengths.specs.Kind.{Kind}
 use Rattle.frames.specs.Items.{TellsBody, BodyDamage}
-use Rattle.frames.specs.Record.{Unreadable}
-use Rattle.frames.specs.Stream.{Told, recorded, unknown, head_length, head_kind, Whole, Damage, First}
+use Rattle.frames.specs.Head.{head_length, head_kind, Whole}
+use Rattle.frames.specs.Stream.{Told, recorded, unknown, Damage, First}
 use Rattle.frames.specs.declared.fault.FrameFault.{FrameFault}
 use Rattle.frames.specs.declared.fault.FrameFault.TheVariants.{Short, Extent, Size, Field, Code}
+use Rattle.frames.proofs.Bytes.{headed}
 use Rattle.frames.proofs.Streams.{unreadable_alike}
-
--- a list by its first four elements
-headed : (xs : List ℕ) → 4 ≤ length xs → xs ≡ get_or xs 0 0 ∷ get_or xs 1 0 ∷ get_or xs 2 0 ∷ get_or xs 3 0 ∷ drop 4 xs
-headed xs h =
-    let d0 = drop-cons xs 0 0 (omega arith) in
-    let d1 = drop-cons xs 1 0 (omega arith) in
-    let d2 = drop-cons xs 2 0 (omega arith) in
-    let d3 = drop-cons xs 3 0 (omega arith) in
-    d0 ∙ ap (λ ys. get_or xs 0 0 ∷ ys) (d1 ∙ ap (λ ys. get_or xs 1 0 ∷ ys) (d2 ∙ ap (λ ys. get_or xs 2 0 ∷ ys) d3))
 
 -- a frame's bytes are those that it is the front of
 pub alike : (bytes : List ℕ) (n : ℕ) → n ≤ length bytes → length (take n bytes) ≡ 16 → (i : ℕ) → i < 16 → get_or (take n bytes) i 0 ≡ get_or bytes i 0
 alike bytes n h l i lt = get_or-take n bytes i 0 (omega (arith, length-take-le n bytes h))
 
 module _ {V : Type 0} (k : Kind V) where
-  pub body_damage : (frame fields : List ℕ) (f : FrameFault) → length frame ≡ 16 → fields ≡ frame → Unreadable k fields f → BodyDamage k frame f
-  body_damage frame fields Short l e u = u
-  body_damage frame fields Extent l e u = u
-  body_damage frame fields Size l e u = absurd u
-  body_damage frame fields Field l e u = (l, subst (λ x. Unreadable k x Field) e u)
-  body_damage frame fields Code l e u = (l, subst (λ x. Unreadable k x Code) e u)
-
   -- what is wrong with a frame of a record's kind is wrong with the bytes that begin with it
   pub front_damage : (bytes : List ℕ) (f : FrameFault) → Whole bytes → head_kind bytes ≡ 1 → BodyDamage k (take (head_length bytes) bytes) f → Damage k bytes f
   front_damage bytes Short w e d = absurd d

@@ -1,15 +1,19 @@
 -- Records and their frames: one to one, for every kind of length.
 use Rattle.std.proofs.Common.{◌≡◌, ℕ, zero, suc, ◌+◌, ◌^◌, ◌<◌, ◌≤◌, List, length, get_or, drop, Some, Ok, Err, Result, sym, refl, ap, ◌∙◌, subst, arith}
+use mathlib.Core.Logic.{by_cases}
+use native.Mathlib.Decide.{dec_lt}
+use Rattle.std.proofs.lemmas.List.{drop-drop, get_or-drop, get_or_past, length-drop}
+use Rattle.std.proofs.lemmas.Nat.{le_bytes_8, from_le_bytes-to_le_bytes_8}
 use Rattle.lengths.specs.Kind.{Kind, Laws}
 use Rattle.rules.specs.Status.{number_of}
 use Rattle.rules.specs.declared.record.Record.{Record}
 use Rattle.rules.specs.declared.status.Status.{Status}
 use Rattle.rules.specs.declared.status.Status.TheVariants.{I, C, EB, EF}
-use Rattle.frames.specs.Record.{eight_bytes, body_of, frame_of, Fields, code_in, Unreadable, Accepted, Refused, Reads, Written}
+use Rattle.frames.specs.Record.{status_of, eight_bytes, body_of, frame_of, Fields, code_in, Unreadable, Accepted, Refused, Reads, Written}
 use Rattle.frames.specs.declared.fault.FrameFault.{FrameFault}
 use Rattle.frames.specs.declared.fault.FrameFault.TheVariants.{Short, Extent, Size, Field, Code}
 use Rattle.frames.specs.declared.sent.Sent.{Sent}
-use Rattle.frames.proofs.Bytes.{split, rejoin, from, spread, at_drop}
+use Rattle.frames.proofs.Bytes.{headed, at_drop}
 
 pub status_small : (s : Status) → number_of s ≤ 3
 status_small I = omega arith
@@ -17,13 +21,8 @@ status_small C = omega arith
 status_small EB = omega arith
 status_small EF = omega arith
 
-abbrev pub status_of : ℕ → Status
-status_of zero = I
-status_of (suc zero) = C
-status_of (suc (suc zero)) = EB
-status_of (suc (suc (suc n))) = EF
-
-status_back : (s : Status) → status_of (number_of s) ≡ s
+-- a status is that of its number
+pub status_back : (s : Status) → status_of (number_of s) ≡ s
 status_back I = refl
 status_back C = refl
 status_back EB = refl
@@ -38,9 +37,13 @@ status_of_any (suc (suc (suc n))) h = omega arith
 pub same_status : (s t : Status) → number_of s ≡ number_of t → s ≡ t
 same_status s t e = sym (status_back s) ∙ (ap status_of e ∙ status_back t)
 
--- the bytes of a code are below 256
-abbrev pub Bytes : List ℕ → Type 0
-Bytes f = (get_or f 8 0 < 256) × (get_or f 9 0 < 256) × (get_or f 10 0 < 256) × (get_or f 11 0 < 256) × (get_or f 12 0 < 256) × (get_or f 13 0 < 256) × (get_or f 14 0 < 256) × (get_or f 15 0 < 256)
+-- the bytes of the code in a frame are those of the number that stands there
+code_bytes : (frame : List ℕ) → length frame ≡ 16 → ((i : ℕ) → i < 16 → get_or frame i 0 < 256) → eight_bytes (code_in frame) ≡ drop 8 frame
+code_bytes frame long small =
+    let at : (i : ℕ) → get_or (drop 8 frame) i 0 ≡ get_or frame (8 + i) 0 = λ i. get_or-drop 8 frame i 0 in
+    let below : (i : ℕ) → get_or (drop 8 frame) i 0 < 256 =
+    λ i. rw (at i) (by_cases (dec_lt (8 + i) 16) (small (8 + i)) (λ past. rw (get_or_past frame (8 + i) 0 (omega arith)) (omega arith))) in
+    le_bytes_8 (drop 8 frame) (code_in frame) (omega (arith, length-drop 8 frame)) below (omega (arith, at 0, at 1, at 2, at 3, at 4, at 5, at 6, at 7))
 
 module _ {V : Type 0} {k : Kind V} (laws : Laws k) where
   pub same_length : (a b : V) → k.coded a ≡ k.coded b → a ≡ b
@@ -51,13 +54,15 @@ module _ {V : Type 0} {k : Kind V} (laws : Laws k) where
       cc
 
   -- fields that can be read are the body of a record
-  pub body_read : (frame : List ℕ) → length frame ≡ 16 → Bytes frame → Fields frame → (s : Status) → number_of s ≡ get_or frame 4 0 → (v : V) → k.decoded (code_in frame) ≡ Some v → drop 4 frame ≡ body_of k (record { status = s; par = get_or frame 5 0; length = v }) (get_or frame 6 0)
-  body_read frame long b f s number v e =
-      let parts : drop 4 frame ≡ from 4 12 frame = spread 12 4 frame long in
-      let code = split _ _ _ _ _ _ _ _ b.0 b.1 b.2 b.3 b.4 b.5 b.6 b.7 in
+  pub body_read : (frame : List ℕ) → length frame ≡ 16 → ((i : ℕ) → i < 16 → get_or frame i 0 < 256) → Fields frame → (s : Status) → number_of s ≡ get_or frame 4 0 → (v : V) → k.decoded (code_in frame) ≡ Some v → drop 4 frame ≡ body_of k (record { status = s; par = get_or frame 5 0; length = v }) (get_or frame 6 0)
+  body_read frame long small f s number v e =
+      let at : (i : ℕ) → get_or (drop 4 frame) i 0 ≡ get_or frame (4 + i) 0 = λ i. get_or-drop 4 frame i 0 in
+      let parts = headed (drop 4 frame) (omega (arith, length-drop 4 frame)) in
+      let rest : drop 4 (drop 4 frame) ≡ drop 8 frame = drop-drop 4 4 frame in
+      let code = code_bytes frame long small in
       let words = ap eight_bytes (laws.own_code (code_in frame) v e) in
       let blank = f.blank in
-      cc
+      cc (at 0, at 1, at 2, at 3)
 
   -- the code that stands in a frame is the one that was written
   pub code_written : (frame : List ℕ) (r : Record V) (port : ℕ) → drop 4 frame ≡ body_of k r port → code_in frame ≡ k.coded r.length
@@ -65,7 +70,7 @@ module _ {V : Type 0} {k : Kind V} (laws : Laws k) where
       let at : (i : ℕ) → get_or frame (4 + i) 0 ≡ get_or (body_of k r port) i 0 = λ i. at_drop 4 i frame (body_of k r port) e in
       let n = k.coded r.length in
       let small : n < 2 ^ 64 = omega (arith, laws.bounded r.length) in
-      let whole = rejoin n small in
+      let whole = from_le_bytes-to_le_bytes_8 n small in
       omega (arith, at 4, at 5, at 6, at 7, at 8, at 9, at 10, at 11, whole)
 
   -- a record's body has fields that can be read

@@ -4,7 +4,8 @@ use Rattle.std.proofs.lemmas.List.{length-take-le, get_or-take, drop-drop}
 use Rattle.lengths.specs.Kind.{Kind, Laws}
 use Rattle.rules.specs.Status.{number_of}
 use Rattle.frames.specs.Record.{Fields, code_in, Unreadable}
-use Rattle.frames.specs.Stream.{Told, recorded, unknown, End, ended, stopped, head_length, head_kind, Tells, Whole, Damage, Ends, First, Stands, told_of, NoFrame}
+use Rattle.frames.specs.Head.{head_length, head_kind, Whole}
+use Rattle.frames.specs.Stream.{Told, recorded, unknown, End, ended, stopped, Tells, Damage, Ends, First, Stands, told_of, NoFrame}
 use Rattle.frames.specs.Reading.{left, Passed, Halted, Steps, Repeats, Gives}
 use Rattle.frames.specs.declared.fault.FrameFault.{FrameFault}
 use Rattle.frames.specs.declared.fault.FrameFault.TheVariants.{Short, Extent, Size, Field, Code}

@@ -1,24 +1,26 @@
 -- A survey: what was counted so far, and what is left, are all that the stream stands for.
-use Rattle.std.proofs.Common.{◌≡◌, ℕ, ◌+◌, ◌≤◌, List, [], ◌∷◌, drop, refl, ap, ◌∙◌, subst, arith}
+use Rattle.std.proofs.Common.{◌≡◌, ℕ, ◌+◌, ◌≤◌, List, [], ◌∷◌, drop, None, Option, refl, ap, ◌∙◌, subst, arith}
 use Rattle.lengths.specs.Kind.{Kind, Laws}
 use Rattle.frames.specs.Stream.{Told, recorded, unknown, End, Stands}
 use Rattle.frames.specs.Reading.{left, Opens, Passed, one_record, one_unknown, count, fault_at, Surveyed}
+use Rattle.frames.specs.declared.reader.Fault.{Fault}
 use Rattle.frames.specs.declared.reader.Reader.{Reader}
 use Rattle.frames.specs.declared.survey.Survey.{Survey}
 use Rattle.frames.proofs.Streams.{unique, passes}
 
--- the bytes stand for items that end in these, and of the others so many were counted
-pub record Counted {V : Type 0} (k : Kind V) (bytes : List ℕ) (us : List Told) (e : End) (n m : ℕ) : Type 0 where
+-- the bytes stand for items that end in these, and of the others as many were counted as the survey says
+pub record Counted {V : Type 0} (k : Kind V) (bytes : List ℕ) (us : List Told) (e : End) (s : Survey) : Type 0 where
   pub items : List Told
   pub stands : Stands k 0 bytes items e
-  pub records_are : n + count one_record us ≡ count one_record items
-  pub unknown_are : m + count one_unknown us ≡ count one_unknown items
+  pub records_are : s.records + count one_record us ≡ count one_record items
+  pub unknown_are : s.unknown + count one_unknown us ≡ count one_unknown items
 
--- a reader of the bytes that has counted what it has read
-pub record Counting {V : Type 0} (k : Kind V) (bytes : List ℕ) (r : Reader V) (n m : ℕ) : Type 0 where
+-- a reader of the bytes that has counted what it has read, and has come to no fault
+pub record Counting {V : Type 0} (k : Kind V) (bytes : List ℕ) (r : Reader V) (s : Survey) : Type 0 where
   pub same : r.input.now ≡ bytes
-  pub few : n + m ≤ r.place
-  pub counted : (us : List Told) (e : End) → Stands k r.place (left r) us e → Counted k bytes us e n m
+  pub few : s.records + s.unknown ≤ r.place
+  pub counted : (us : List Told) (e : End) → Stands k r.place (left r) us e → Counted k bytes us e s
+  pub none : s.stop ≡ None
 
 one_of_two : (t : Told) → one_record t + one_unknown t ≡ 1
 one_of_two (recorded s p o c) = refl
@@ -26,7 +28,7 @@ one_of_two (unknown kind b) = refl
 
 module _ {V : Type 0} {k : Kind V} (laws : Laws k) where
   -- at the first byte nothing was counted
-  pub counting_none : (bytes : List ℕ) (r : Reader V) → Opens k bytes r → Counting k bytes r 0 0
+  pub counting_none : (bytes : List ℕ) (r : Reader V) → Opens k bytes r → Counting k bytes r (record { records = 0; unknown = 0; stop = None })
   counting_none bytes r o =
       let there : left r ≡ bytes = ap (λ n. drop n r.input.now) o.place_is ∙ o.input_is in
       record {
@@ -38,24 +40,28 @@ module _ {V : Type 0} {k : Kind V} (laws : Laws k) where
           records_are = omega arith;
           unknown_are = omega arith;
         };
+        none = refl;
       }
 
   -- one frame more
-  pub counting_more : (bytes : List ℕ) (before after : Reader V) (t : Told) (n m n' m' : ℕ) → Counting k bytes before n m → Passed k before t after → n' ≡ n + one_record t → m' ≡ m + one_unknown t → Counting k bytes after n' m'
-  counting_more bytes before after t n m n' m' c p en em =
+  pub counting_more : (bytes : List ℕ) (before after : Reader V) (t : Told) (s s' : Survey) → Counting k bytes before s → Passed k before t after → s'.records ≡ s.records + one_record t → s'.unknown ≡ s.unknown + one_unknown t → s'.stop ≡ s.stop → Counting k bytes after s'
+  counting_more bytes before after t s s' c p en em es =
       record {
         same = p.same ∙ c.same;
         few = omega (arith, one_of_two t, c.few, p.moved, p.some);
-        counted = λ us e s.
-            let all = c.counted (t ∷ us) e (passes laws before t after p us e s) in
+        counted = λ us e x.
+            let all = c.counted (t ∷ us) e (passes laws before t after p us e x) in
             record { items = all.items; stands = all.stands; records_are = omega (arith, all.records_are); unknown_are = omega (arith, all.unknown_are) };
+        none = es ∙ c.none;
       }
 
   -- at the end all was counted
-  pub counted_all : (bytes : List ℕ) (e : End) (s : Survey) → Counted k bytes [] e s.records s.unknown → s.stop ≡ fault_at e → Surveyed k bytes s
-  counted_all bytes e s c f = record {
-    meant = record { items = c.items; end = e; stands = c.stands; only = λ ts d q. unique laws ts c.items 0 bytes d e q c.stands };
-    records_are = omega (arith, c.records_are);
-    unknown_are = omega (arith, c.unknown_are);
-    stop_is = f;
-  }
+  pub counted_all : (bytes : List ℕ) (r : Reader V) (e : End) (s : Survey) (stop : Option Fault) → Counting k bytes r s → Stands k r.place (left r) [] e → stop ≡ fault_at e → Surveyed k bytes (record s { stop = stop })
+  counted_all bytes r e s stop c x f =
+      let all = c.counted [] e x in
+      record {
+        meant = record { items = all.items; end = e; stands = all.stands; only = λ ts d q. unique laws ts all.items 0 bytes d e q all.stands };
+        records_are = omega (arith, all.records_are);
+        unknown_are = omega (arith, all.unknown_are);
+        stop_is = f;
+      }

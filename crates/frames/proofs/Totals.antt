@@ -1,16 +1,17 @@
 -- Every list of bytes stands for something.
 use Rattle.std.proofs.Common.{◌≡◌, ℕ, zero, suc, ◌+◌, ◌<◌, ◌≤◌, List, [], ◌∷◌, length, get_or, take, drop, Some, None, Option, sym, refl, ap, ◌∙◌, arith}
-use native.Mathlib.Decide.{dec_le}
+use native.Mathlib.Decide.{dec_le, ℕ_discrete}
 use Rattle.std.proofs.lemmas.List.{length-take-le, length-drop, get_or-drop, nil_from_length}
 use Rattle.lengths.specs.Kind.{Kind, Laws}
 use Rattle.rules.specs.Status.{number_of}
 use Rattle.rules.specs.declared.record.Record.{Record}
-use Rattle.frames.specs.Record.{Fields, code_in}
-use Rattle.frames.specs.Stream.{Told, recorded, unknown, End, ended, stopped, head_length, head_kind, Whole, RecordHead, Damage, First, Stands, Small, Meant}
+use Rattle.frames.specs.Record.{status_of, Fields, code_in}
+use Rattle.frames.specs.Head.{head_length, head_kind, Whole}
+use Rattle.frames.specs.Stream.{Told, recorded, unknown, End, ended, stopped, RecordHead, Damage, First, Stands, Small, Meant}
 use Rattle.frames.specs.declared.fault.FrameFault.{FrameFault}
 use Rattle.frames.specs.declared.fault.FrameFault.TheVariants.{Short, Extent, Size, Field, Code}
 use Rattle.frames.proofs.Fronts.{alike, front_record, front_other}
-use Rattle.frames.proofs.Records.{status_of, status_of_any, body_read}
+use Rattle.frames.proofs.Records.{status_of_any, body_read}
 use Rattle.frames.proofs.Streams.{fields_alike, code_alike, first_size, unique}
 
 -- what bytes begin with: a frame, or a fault
@@ -22,14 +23,6 @@ record Meaning {V : Type 0} (k : Kind V) (place : ℕ) (bytes : List ℕ) : Type
   items : List Told
   end : End
   stands : Stands k place bytes items end
-
-equal : (a b : ℕ) → Dec (a ≡ b)
-equal a b = go (dec_le a b) (dec_le b a)
-  where
-    go : Dec (a ≤ b) → Dec (b ≤ a) → Dec (a ≡ b)
-    go (yes p) (yes q) = yes (omega arith)
-    go (yes p) (no q) = no (λ e. q (omega arith))
-    go (no p) d = no (λ e. p (omega arith))
 
 module _ {V : Type 0} {k : Kind V} (laws : Laws k) where
   by_code : (bytes : List ℕ) → Small bytes → RecordHead bytes → Fields bytes → (o : Option V) → k.decoded (code_in bytes) ≡ o → Front k bytes
@@ -45,7 +38,7 @@ module _ {V : Type 0} {k : Kind V} (laws : Laws k) where
       let fields = fields_alike bytes frame back f in
       let number = status_of_any (get_or frame 4 0) fields.status in
       let told : Record V = record { status = status_of (get_or frame 4 0); par = get_or frame 5 0; length = v } in
-      let body = body_read laws frame long (b 8 (omega arith), b 9 (omega arith), b 10 (omega arith), b 11 (omega arith), b 12 (omega arith), b 13 (omega arith), b 14 (omega arith), b 15 (omega arith)) fields told.status number v (ap k.decoded (code_alike frame bytes same) ∙ e) in
+      let body = body_read laws frame long b fields told.status number v (ap k.decoded (code_alike frame bytes same) ∙ e) in
       framed n (recorded (number_of told.status) told.par (get_or frame 6 0) (k.coded v)) (front_record k bytes _ small h.whole h.kind_is (record { told = told; length_is = long; own_port = fields.port; body = body; status_is = refl; par_is = refl; code_is = refl }))
 
   by_fields : (bytes : List ℕ) → Small bytes → RecordHead bytes → Dec (get_or bytes 4 0 ≤ 3) → Dec (get_or bytes 6 0 ≤ 7) → Dec (get_or bytes 7 0 ≡ 0) → Front k bytes
@@ -55,15 +48,15 @@ module _ {V : Type 0} {k : Kind V} (laws : Laws k) where
   by_fields bytes small h (no s) d e = faulty Field (h, λ f. s f.status)
 
   by_size : (bytes : List ℕ) → Small bytes → Whole bytes → head_kind bytes ≡ 1 → Dec (head_length bytes ≡ 16) → Front k bytes
-  by_size bytes small w e (yes h) = by_fields bytes small (record { whole = w; kind_is = e; length_is = h }) (dec_le _ _) (dec_le _ _) (equal _ _)
+  by_size bytes small w e (yes h) = by_fields bytes small (record { whole = w; kind_is = e; length_is = h }) (dec_le _ _) (dec_le _ _) (ℕ_discrete _ _)
   by_size bytes small w e (no h) = faulty Size (w, e, h)
 
   by_kind : (bytes : List ℕ) → Small bytes → Whole bytes → Dec (head_kind bytes ≡ 1) → Front k bytes
-  by_kind bytes small w (yes e) = by_size bytes small w e (equal _ _)
+  by_kind bytes small w (yes e) = by_size bytes small w e (ℕ_discrete _ _)
   by_kind bytes small w (no e) = framed (head_length bytes) (unknown (head_kind bytes) (take (head_length bytes) bytes)) (front_other k bytes _ _ w refl e refl)
 
   by_extent : (bytes : List ℕ) → Small bytes → 4 ≤ length bytes → Dec (4 ≤ head_length bytes) → Dec (head_length bytes ≤ length bytes) → Front k bytes
-  by_extent bytes small h (yes l) (yes m) = by_kind bytes small (record { head = h; least = l; within = m }) (equal _ _)
+  by_extent bytes small h (yes l) (yes m) = by_kind bytes small (record { head = h; least = l; within = m }) (ℕ_discrete _ _)
   by_extent bytes small h (yes l) (no m) = faulty Extent (h, λ w. m w.within)
   by_extent bytes small h (no l) d = faulty Extent (h, λ w. l w.least)
 

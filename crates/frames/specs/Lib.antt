@@ -1,4 +1,5 @@
 pub mod Faults
+pub mod Head
 pub mod Items
 pub mod Reading
 pub mod Record

@@ -1,8 +1,9 @@
 -- Streams of frames: what a frame tells, what is wrong with bytes that begin with none, and what a whole stream stands for.
-use Rattle.std.specs.Prelude.{◌≡◌, ℕ, ◌+◌, ◌*◌, ◌<◌, ◌≤◌, ◌≢◌, List, [], ◌∷◌, ◌++◌, length, take, drop, Ok, Err, Result, slice_index}
+use Rattle.std.specs.Prelude.{◌≡◌, ℕ, ◌+◌, ◌<◌, ◌≤◌, ◌≢◌, List, [], ◌∷◌, ◌++◌, length, take, drop, Ok, Err, Result, slice_index}
 use Rattle.lengths.specs.Kind.{Kind}
 use Rattle.rules.specs.Status.{number_of}
 use Rattle.rules.specs.declared.record.Record.{Record}
+use Rattle.frames.specs.Head.{head_length, head_kind, Whole}
 use Rattle.frames.specs.Record.{frame_of, Unreadable}
 use Rattle.frames.specs.declared.fault.FrameFault.{FrameFault}
 use Rattle.frames.specs.declared.fault.FrameFault.TheVariants.{Short, Extent, Size, Field, Code}
@@ -19,13 +20,6 @@ pub data Told : Type 0 where
 pub data End : Type 0 where
   ended : End
   stopped : (fault : FrameFault) (place : ℕ) → End
-
--- the length and the kind that stand at the front of a frame, the lower byte first
-abbrev pub head_length : List ℕ → ℕ
-head_length bytes = slice_index bytes 0 + slice_index bytes 1 * 256
-
-abbrev pub head_kind : List ℕ → ℕ
-head_kind bytes = slice_index bytes 2 + slice_index bytes 3 * 256
 
 -- the frame is that of some record and port, and these are their numbers
 pub record Recorded {V : Type 0} (k : Kind V) (frame : List ℕ) (status par port code : ℕ) : Type 0 where
@@ -48,12 +42,6 @@ pub record OtherKind (frame : List ℕ) (kind : ℕ) (bytes : List ℕ) : Type 0
 abbrev pub Tells : {V : Type 0} → Kind V → List ℕ → Told → Type 0
 Tells k frame (recorded status par port code) = Recorded k frame status par port code
 Tells k frame (unknown kind bytes) = OtherKind frame kind bytes
-
--- the bytes have a head, whose length is at least the head's and lies within them
-pub record Whole (bytes : List ℕ) : Type 0 where
-  pub head : 4 ≤ length bytes
-  pub least : 4 ≤ head_length bytes
-  pub within : head_length bytes ≤ length bytes
 
 -- the bytes begin with a frame of a record's kind and length
 pub record RecordHead (bytes : List ℕ) : Type 0 where

@@ -6,7 +6,7 @@ use std::marker::PhantomData;
 pub mod steps;
 
 // A frame that cannot be read, and where in the stream its first byte is.
-#[derive(Clone, Copy)]
+#[derive(Clone, Copy, Debug, PartialEq, Eq)]
 pub struct Fault {
     pub place: usize,
     pub fault: FrameFault,

@@ -21,7 +21,7 @@ pub fn write_frame<L: Length>(record: Record<L>, port: u8) -> Option<[u8; 16]>
     if port > LAST_PORT {
         return None;
     }
-    let status = record.status.number() as u8;
+    let status = u8::from(record.status);
     let par = record.par;
     let [a, b, c, d, e, f, g, h] = record.length.code().to_le_bytes();
     Some([16, 0, 1, 0, status, par, port, 0, a, b, c, d, e, f, g, h])
@@ -32,16 +32,12 @@ pub fn read_record<L: Length>(frame: &[u8; 16]) -> Result<Sent<L>, FrameFault>
     ensures { Reads L.Length.meaning frame.now result }
 {
     let [_, _, _, _, number, par, port, zero, a, b, c, d, e, f, g, h] = *frame;
-    let Some(status) = Status::numbered(u32::from(number)) else {
-        return Err(FrameFault::Field);
-    };
+    let status = Status::try_from(u32::from(number)).map_err(|_| FrameFault::Field)?;
     if port > LAST_PORT || zero != 0 {
         return Err(FrameFault::Field);
     }
     let code = u64::from_le_bytes([a, b, c, d, e, f, g, h]);
-    let Some(length) = L::read(code) else {
-        return Err(FrameFault::Code);
-    };
+    let length = L::read(code).ok_or(FrameFault::Code)?;
     let record = Record {
         status,
         par,

@@ -5,7 +5,7 @@ use crate::reader::{Fault, Reader};
 use lengths::Length;
 
 // How many frames of each kind a stream has, and the fault that it stops at, if any.
-#[derive(Clone, Copy)]
+#[derive(Clone, Copy, Debug, PartialEq, Eq)]
 pub struct Survey {
     pub records: usize,
     pub unknown: usize,
@@ -17,28 +17,22 @@ pub fn survey_stream<L: Length>(bytes: &[u8]) -> Survey
     ensures { Surveyed L.Length.meaning bytes.now result }
 {
     let mut reader = Reader::<L>::new(bytes);
-    let mut records = 0;
-    let mut unknown = 0;
-    loop {
-        match reader.next() {
-            None => {
+    let mut survey = Survey {
+        records: 0,
+        unknown: 0,
+        stop: None,
+    };
+    while let Some(step) = reader.next() {
+        match step {
+            Ok(Item::Record { .. }) => survey.records += 1,
+            Ok(Item::Unknown { .. }) => survey.unknown += 1,
+            Err(fault) => {
                 return Survey {
-                    records,
-                    unknown,
-                    stop: None,
-                };
-            }
-            Some(Err(fault)) => {
-                return Survey {
-                    records,
-                    unknown,
                     stop: Some(fault),
+                    ..survey
                 };
             }
-            Some(Ok(item)) => match item {
-                Item::Record { .. } => records += 1,
-                Item::Unknown { .. } => unknown += 1,
-            },
         }
     }
+    survey
 }

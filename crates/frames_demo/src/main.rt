@@ -62,7 +62,7 @@ fn show_stream(rt: &HostRuntime, name: &str, bytes: &[u8]) -> io::Result<()> {
             None => return println!(rt; "  end"),
             Some(Err(fault)) => {
                 let place = fault.place;
-                let number = fault.fault.number();
+                let number = u32::from(fault.fault);
                 return println!(rt; "  fault {number} at {place}");
             }
             Some(Ok(item)) => show_item(rt, item)?,

@@ -27,6 +27,7 @@ impl<'a, L: Length> Reader<'a, L> {
     }
 
     // The next frame's item, or nothing at the input's end. At a frame that cannot be read it stays.
+    // It is not `Iterator::next`: a fault is answered for ever, so that no `for` over a reader could be proved to end.
     pub fn next(&mut self) -> Option<Result<Item<'a>, Fault>>
         ensures step { Steps L.Length.meaning self.old result self.new }
         ensures again { Repeats L.Length.meaning result self.new }

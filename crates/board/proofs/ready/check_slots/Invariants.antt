@@ -1,5 +1,5 @@
 use Rattle.board.specs.Ready.{FramesBelow}
-use Rattle.board.proofs.ready.slots_fault.Given as goal
+use Rattle.board.proofs.ready.check_slots.Given as goal
 
 abbrev pub invariant-loop-port : goal.invariant-loop-port
 invariant-loop-port g l = FramesBelow g.L.Length.meaning l.ports l.ear l.port
