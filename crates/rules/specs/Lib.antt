@@ -1,2 +1,3 @@
 pub mod Status
 pub mod Rules
+pub mod Texts

@@ -6,6 +6,7 @@ mod moves;
 mod neighbourhood;
 mod offers;
 mod record;
+mod text;
 
 pub use judge::{Plan, abnormal_root, decide};
 pub use moves::{Move, follow, moved, verdict};
