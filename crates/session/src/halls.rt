@@ -23,8 +23,8 @@ impl AnyHall {
         ensures { MakesAny kind boards result }
     {
         match kind {
-            Kind::Metres => Ok(AnyHall::Metres(Hall::new(boards)?)),
-            Kind::Grade => Ok(AnyHall::Grade(Hall::new(boards)?)),
+            Kind::Metres => Hall::new(boards).map(AnyHall::Metres),
+            Kind::Grade => Hall::new(boards).map(AnyHall::Grade),
         }
     }
 
