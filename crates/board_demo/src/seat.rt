@@ -70,8 +70,7 @@ impl Seat {
                 })
             }
             Err((board, fault)) => {
-                let fault = fault.number();
-                println!(rt; "  board {number} is not ready: {fault}")?;
+                println!(rt; "  board {number} is not ready: {}", fault.number())?;
                 Ok(Seat {
                     board,
                     moved: false,
@@ -94,17 +93,13 @@ impl Seat {
     pub(crate) fn hear(mut self, rt: &HostRuntime, port: u8, frame: [u8; 16]) -> io::Result<Seat> {
         let number = self.number;
         match read_record::<Metres>(&frame) {
-            Ok(sent) => {
-                let record = sent.record;
-                println!(rt; "  board {number} hears at port {port}: {record}")?
-            }
+            Ok(sent) => println!(rt; "  board {number} hears at port {port}: {}", sent.record)?,
             Err(_) => println!(rt; "  board {number} hears at port {port}: nothing")?,
         }
         let board = match self.board.hear(&mut self.ear, u32::from(port), &frame) {
             Ok(board) => board,
             Err((board, fault)) => {
-                let fault = fault.number();
-                println!(rt; "  and refuses it: {fault}")?;
+                println!(rt; "  and refuses it: {}", fault.number())?;
                 board
             }
         };
