@@ -54,11 +54,9 @@ module _ {V : Type 0} {k : Kind V} (laws : Laws k) (own : Record V) (near : ℕ 
 
   one_taken : (x y : Record V) → Takes k near x → Takes k near y → x ≡ y
   one_taken x y p q =
-      let e = one_least x.par y.par x.length y.length p.1 q.1 in
-      same_record x y (p.0 ∙ sym q.0) e.0 e.1
-    where
-      same_record : (a b : Record V) → a.status ≡ b.status → a.par ≡ b.par → a.length ≡ b.length → a ≡ b
-      same_record a b s e l = λ i. record { status = s i; par = e i; length = l i }
+      let status = p.0 ∙ sym q.0 in
+      let least = one_least x.par y.par x.length y.length p.1 q.1 in
+      λ i. record { status = status i; par = least.0 i; length = least.1 i }
 
   pub one_effect : (v : Verdict) (x y : Record V) → Effect k own near v x → Effect k own near v y → x ≡ y
   one_effect RC x y p q = one_taken x y p q
