@@ -18,10 +18,7 @@ impl fmt::Display for Tally {
             isolated,
             rejoined,
         } = *self;
-        write!(
-            f,
-            "{corrected} {broadcast} {fedback} {isolated} {rejoined}"
-        )
+        write!(f, "{corrected} {broadcast} {fedback} {isolated} {rejoined}")
     }
 }
 
@@ -30,10 +27,9 @@ impl<L: Length> fmt::Display for Look<L> {
     ghost output = { λ look. Some (look_text L.Length.meaning look) };
 
     fn fmt<W: fmt::Write>(&self, f: &mut fmt::Formatter<W>) -> fmt::Result {
-        let record = self.record;
         match self.verdict {
-            Some(verdict) => write!(f, "{record} {verdict}"),
-            None => write!(f, "{record} -"),
+            Some(verdict) => write!(f, "{} {verdict}", self.record),
+            None => write!(f, "{} -", self.record),
         }
     }
 }

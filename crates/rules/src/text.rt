@@ -39,7 +39,6 @@ impl<L: Length> fmt::Display for Record<L> {
     ghost output = { λ own. Some (record_text L.Length.meaning own) };
 
     fn fmt<W: fmt::Write>(&self, f: &mut fmt::Formatter<W>) -> fmt::Result {
-        let (status, par, code) = (self.status, self.par, self.length.code());
-        write!(f, "{status} {par} {code}")
+        write!(f, "{} {} {}", self.status, self.par, self.length.code())
     }
 }

@@ -1,4 +1,4 @@
-use Rattle.std.proofs.Common.{◌≡◌, ◌++◌, ◌+◌, string_bytes, append_assoc, rules, arith}
+use Rattle.std.proofs.Common.{◌+◌, string_bytes, append_assoc, rules, arith}
 use Rattle.session.specs.Texts.{ShownFrom, past, board, board_text}
 use Rattle.session.proofs.Appending.{step, finish}
 use Rattle.session.proofs.text.show.Goals as goal
