@@ -1,8 +1,7 @@
-use crate::seat::{Seat, show};
+use crate::seat::Seat;
 use hall::{Fault, Hall};
-use lengths::{Length, Metres};
+use lengths::Metres;
 use pickers::All;
-use rules::Record;
 use std::io;
 
 // The same hall on the bench, settled.
@@ -13,13 +12,8 @@ pub(crate) fn settled() -> Result<Hall<Metres>, Fault> {
     hall.wire(2, 1, 3, 0, 20)?;
     hall.wire(0, 1, 3, 1, 200)?;
     hall.plant(2, 1, 1, 3)?;
-    let mut picker = All;
-    hall.settle(&mut picker);
+    hall.settle(&mut All);
     Ok(hall)
-}
-
-fn same(a: Record<Metres>, b: Record<Metres>) -> bool {
-    a.status.is(b.status) && a.par == b.par && a.length.code() == b.length.code()
 }
 
 // A board's record beside the one that the bench has for it.
@@ -28,14 +22,11 @@ pub(crate) fn compare(rt: &HostRuntime, hall: &Hall<Metres>, seat: &Seat) -> io:
     let Ok(look) = hall.look(number) else {
         return println!(rt; "the bench has no board {number}");
     };
-    let own = seat.board.own();
-    print!(rt; "board {number}:")?;
-    show(rt, own)?;
-    print!(rt; "; on the bench:")?;
-    show(rt, look.record)?;
-    if same(own, look.record) {
-        println!(rt; ", the same")
+    let (own, record) = (seat.board.own(), look.record);
+    let verdict = if own == record {
+        "the same"
     } else {
-        println!(rt; ", another")
-    }
+        "another"
+    };
+    println!(rt; "board {number}: {own}; on the bench: {record}, {verdict}")
 }

@@ -44,30 +44,26 @@ fn show_item(rt: &HostRuntime, item: Item<'_>) -> io::Result<()> {
             port,
             code,
         } => println!(rt; "  record: status {status}, par {par}, port {port}, code {code}"),
-        Item::Unknown { kind, bytes } => {
-            let size = bytes.len();
-            println!(rt; "  kind {kind}: {size} bytes")
-        }
+        Item::Unknown { kind, bytes } => println!(rt; "  kind {kind}: {} bytes", bytes.len()),
     }
 }
 
 fn show_stream(rt: &HostRuntime, name: &str, bytes: &[u8]) -> io::Result<()> {
     let survey = survey_stream::<Metres>(bytes);
-    let records = survey.records;
-    let unknown = survey.unknown;
-    println!(rt; "{name}: {records} records, {unknown} of other kinds")?;
+    println!(rt;
+        "{name}: {} records, {} of other kinds",
+        survey.records, survey.unknown
+    )?;
     let mut reader = Reader::<Metres>::new(bytes);
-    loop {
-        match reader.next() {
-            None => return println!(rt; "  end"),
-            Some(Err(fault)) => {
-                let place = fault.place;
-                let number = u32::from(fault.fault);
-                return println!(rt; "  fault {number} at {place}");
+    while let Some(next) = reader.next() {
+        match next {
+            Ok(item) => show_item(rt, item)?,
+            Err(fault) => {
+                return println!(rt; "  fault {} at {}", u32::from(fault.fault), fault.place);
             }
-            Some(Ok(item)) => show_item(rt, item)?,
         }
     }
+    println!(rt; "  end")
 }
 
 fn show_written(rt: &HostRuntime, code: u64, port: u8) -> io::Result<()> {

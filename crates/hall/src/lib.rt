@@ -8,6 +8,7 @@ mod plans;
 mod questions;
 mod settle;
 mod tables;
+mod text;
 mod turns;
 mod view;
 

@@ -1,3 +1,4 @@
 pub mod Status
 pub mod Records
 pub mod Rules
+pub mod Texts

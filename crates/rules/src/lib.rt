@@ -8,6 +8,7 @@ mod neighbourhood;
 mod offers;
 mod record;
 mod status;
+mod text;
 mod verdict;
 
 pub use board::Board;

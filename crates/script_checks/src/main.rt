@@ -11,15 +11,11 @@ const LONGEST: usize = 65_536;
 fn main(rt: HostRuntime) -> io::Result<()> {
     let mut script = Vec::new(rt.alloc());
     rt.stdin().read_to_end(&mut script)?;
-    print_transcript(&rt, &script)?;
     let longest = vec![in rt.alloc(); b'a'; LONGEST]?;
-    print_transcript(&rt, &longest)?;
     let longer = vec![in rt.alloc(); b'a'; LONGEST + 1]?;
-    print_transcript(&rt, &longer)?;
-    print_transcript(&rt, b"")
-}
-
-fn print_transcript(rt: &HostRuntime, script: &[u8]) -> io::Result<()> {
-    let answers = transcript(rt.alloc(), script)?;
-    rt.stdout().write_all(answers.as_bytes())
+    for script in [&script[..], &longest[..], &longer[..], b""] {
+        let answers = transcript(rt.alloc(), script)?;
+        rt.stdout().write_all(answers.as_bytes())?;
+    }
+    Ok(())
 }

@@ -1,5 +1,5 @@
 -- Commands and lines, as the session goes through them.
-use Rattle.std.proofs.Common.{◌≡◌, ℕ, ◌+◌, List, [], ◌∷◌, ◌++◌, Option, Result, sym, refl, ap, ◌∙◌, subst, append_assoc, append-nil}
+use Rattle.std.proofs.Common.{◌≡◌, ℕ, ◌+◌, List, [], ◌∷◌, ◌++◌, Option, Result, ◌⊎◌, inl, inr, ⊎_elim, sym, refl, ap, ◌∙◌, subst, append_assoc, append-nil}
 use Rattle.words.specs.Lines.{FirstLine, Lines}
 use Rattle.commands.specs.declared.command.Command.{Command}
 use Rattle.commands.specs.declared.command.Command.TheVariants.{New, Wire, Cut, Plant, Turn, Settle, Tally, Show}
@@ -11,15 +11,20 @@ use Rattle.session.specs.declared.fault.ScriptFault.{ScriptFault}
 use Rattle.session.specs.declared.halls.AnyHall.{AnyHall}
 use Rattle.session.specs.declared.obey.Reply.{Reply}
 
+-- a command makes a hall, or wants one
+pub makes_or_wants : (command : Command) → ((n : ℕ) × (kind : Kind) × (command ≡ New n kind)) ⊎ (Does command ≡ Commands command)
+makes_or_wants (New n kind) = inl (n, kind, refl)
+makes_or_wants (Wire a p b q w) = inr refl
+makes_or_wants (Cut b p) = inr refl
+makes_or_wants (Plant b status par code) = inr refl
+makes_or_wants (Turn boards) = inr refl
+makes_or_wants (Settle name) = inr refl
+makes_or_wants (Tally b) = inr refl
+makes_or_wants Show = inr refl
+
 pub does_other : (command : Command) (before : Option AnyHall) (r : Result Reply ScriptFault) (after : Option AnyHall) → ((n : ℕ) (kind : Kind) → command ≡ New n kind → ⊥) → Commands command before r after → Does command before r after
-does_other (New n kind) before r after other h = absurd (other n kind refl)
-does_other (Wire a p b q w) before r after other h = h
-does_other (Cut b p) before r after other h = h
-does_other (Plant b status par code) before r after other h = h
-does_other (Turn boards) before r after other h = h
-does_other (Settle name) before r after other h = h
-does_other (Tally b) before r after other h = h
-does_other Show before r after other h = h
+does_other command before r after other h =
+    ⊎_elim (λ m. absurd (other m.0 m.1 m.2)) (λ same. subst (λ D. D before r after) (sym same) h) (makes_or_wants command)
 
 -- whatever answers the rest, from this number and hall on, answers the whole script after what is written
 abbrev pub GoesOn : List ℕ → List ℕ → ℕ → Option AnyHall → List ℕ → Type 0

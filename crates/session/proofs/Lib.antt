@@ -3,3 +3,4 @@ mod Answering
 mod OneMove
 mod OneHall
 mod OneTranscript
+mod Making

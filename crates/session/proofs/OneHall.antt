@@ -126,49 +126,39 @@ module _ {V : Type 0} {k : Kind V} (laws : Laws k) where
       let length = only u.length v.length in
       λ i. record { status = status i; par = par i; length = length i }
 
-  pub one_wires : (g h g' h' : Hall V) (a p b q w : ℕ) → Alike k g h → (r s : Result (Unit {0}) Fault) → Wires k g a p b q w r g' → Wires k h a p b q w s h' → (r ≡ s) × Alike k g' h'
-  one_wires g h g' h' a p b q w l r s = go r s
-    where
-      checks : refusal (wire_checks k g a p b q w) ≡ refusal (wire_checks k h a p b q w)
-      checks = let n = l.boards in let x = l.cables a p in let y = l.cables b q in cc
+  -- A change is made where its checks pass, and else refused: R tells the answer in one hall, with the checks' refusal x, and S in the other.
+  one_change : {g h g' h' : Hall V} {x y : Option Fault} (R S : Result (Unit {0}) Fault → Type 0) → x ≡ y → Alike k g h → ((f : Fault) → R (Err f) → (x ≡ Some f) × (g' ≡ g)) → ((f : Fault) → S (Err f) → (y ≡ Some f) × (h' ≡ h)) → ((o : Unit {0}) → R (Ok o) → x ≡ None) → ((o : Unit {0}) → S (Ok o) → y ≡ None) → ((o o' : Unit {0}) → R (Ok o) → S (Ok o') → Alike k g' h') → (r s : Result (Unit {0}) Fault) → R r → S s → (r ≡ s) × Alike k g' h'
+  one_change R S e l refused refused' made made' both (Ok o) (Ok o') u v = (refl, both o o' u v)
+  one_change R S e l refused refused' made made' both (Ok o) (Err f) u v = absurd (nothing (refused' f v).0 (sym e ∙ made o u))
+  one_change R S e l refused refused' made made' both (Err f) (Ok o) u v = absurd (nothing (refused f u).0 (e ∙ made' o v))
+  one_change R S e l refused refused' made made' both (Err f) (Err f') u v =
+      let p = refused f u in let q = refused' f' v in (ap Err (only p.0 (e ∙ q.0)), kept p.1 q.1 l)
 
-      go : (r s : Result (Unit {0}) Fault) → Wires k g a p b q w r g' → Wires k h a p b q w s h' → (r ≡ s) × Alike k g' h'
-      go (Ok x) (Ok y) u v = (refl, changed l u.1 v.1 (one_adds l.cables u.3 v.3) (λ c lt. u.2 c ∙ l.records c lt ∙ sym (v.2 c)))
-      go (Ok x) (Err e) u v = absurd (nothing v.0 (sym checks ∙ u.0))
-      go (Err d) (Ok y) u v = absurd (nothing u.0 (checks ∙ v.0))
-      go (Err d) (Err e) u v = (ap Err (only u.0 (checks ∙ v.0)), kept u.1 v.1 l)
+  pub one_wires : (g h g' h' : Hall V) (a p b q w : ℕ) → Alike k g h → (r s : Result (Unit {0}) Fault) → Wires k g a p b q w r g' → Wires k h a p b q w s h' → (r ≡ s) × Alike k g' h'
+  one_wires g h g' h' a p b q w l =
+      let checks : refusal (wire_checks k g a p b q w) ≡ refusal (wire_checks k h a p b q w) = let n = l.boards in let x = l.cables a p in let y = l.cables b q in cc in
+      one_change (λ r. Wires k g a p b q w r g') (λ r. Wires k h a p b q w r h') checks l (λ f u. u) (λ f u. u) (λ o u. u.0) (λ o u. u.0)
+      (λ o o' u v. changed l u.1 v.1 (one_adds l.cables u.3 v.3) (λ c lt. u.2 c ∙ l.records c lt ∙ sym (v.2 c)))
 
   pub one_cuts : (g h g' h' : Hall V) (a p : ℕ) → Alike k g h → (r s : Result (Unit {0}) Fault) → Cuts k g a p r g' → Cuts k h a p s h' → (r ≡ s) × Alike k g' h'
-  one_cuts g h g' h' a p l r s = go r s
-    where
-      checks : refusal (cut_checks g a p) ≡ refusal (cut_checks h a p)
-      checks = let n = l.boards in let x = l.cables a p in cc
-
-      go : (r s : Result (Unit {0}) Fault) → Cuts k g a p r g' → Cuts k h a p s h' → (r ≡ s) × Alike k g' h'
-      go (Ok x) (Ok y) u v =
-          let e : u.3.0 ≡ v.3.0 = only u.3.1 (l.cables a p ∙ v.3.1) in
-          (refl, changed l u.1 v.1 (one_removes l.cables (subst (λ o. Removes (far_in g) a p o (far_in g')) e u.3.2) v.3.2) (λ c lt. u.2 c ∙ l.records c lt ∙ sym (v.2 c)))
-      go (Ok x) (Err e) u v = absurd (nothing v.0 (sym checks ∙ u.0))
-      go (Err d) (Ok y) u v = absurd (nothing u.0 (checks ∙ v.0))
-      go (Err d) (Err e) u v = (ap Err (only u.0 (checks ∙ v.0)), kept u.1 v.1 l)
+  one_cuts g h g' h' a p l =
+      let checks : refusal (cut_checks g a p) ≡ refusal (cut_checks h a p) = let n = l.boards in let x = l.cables a p in cc in
+      one_change (λ r. Cuts k g a p r g') (λ r. Cuts k h a p r h') checks l (λ f u. u) (λ f u. u) (λ o u. u.0) (λ o u. u.0)
+      (λ o o' u v.
+      let e : u.3.0 ≡ v.3.0 = only u.3.1 (l.cables a p ∙ v.3.1) in
+      changed l u.1 v.1 (one_removes l.cables (subst (λ end. Removes (far_in g) a p end (far_in g')) e u.3.2) v.3.2) (λ c lt. u.2 c ∙ l.records c lt ∙ sym (v.2 c)))
 
   pub one_planted : (g h g' h' : Hall V) (b status par code : ℕ) → Alike k g h → (r s : Result (Unit {0}) Fault) → Planted k g b status par code r g' → Planted k h b status par code s h' → (r ≡ s) × Alike k g' h'
-  one_planted g h g' h' b status par code l r s = go r s
+  one_planted g h g' h' b status par code l =
+      let checks : refusal (plant_checks k g b status par code) ≡ refusal (plant_checks k h b status par code) = let n = l.boards in cc in
+      one_change (λ r. Planted k g b status par code r g') (λ r. Planted k h b status par code r h') checks l (λ f u. u) (λ f u. u) (λ o u. u.0) (λ o u. u.0)
+      (λ o o' u v. changed l u.1 v.1 (λ c r. u.2 c r ∙ l.cables c r ∙ sym (v.2 c r)) (records u.3 v.3))
     where
-      checks : refusal (plant_checks k g b status par code) ≡ refusal (plant_checks k h b status par code)
-      checks = let n = l.boards in cc
-
       records : Plants k g b status par code g' → Plants k h b status par code h' → (o : ℕ) → o < boards_in g → records_in k g' o ≡ records_in k h' o
       records u v o lt =
           by_cases (ℕ_discrete o b)
           (λ e. ap (records_in k g') e ∙ one_numbered status par code _ _ u.planted v.planted ∙ sym (ap (records_in k h') e))
           (λ ne. u.others o ne ∙ l.records o lt ∙ sym (v.others o ne))
-
-      go : (r s : Result (Unit {0}) Fault) → Planted k g b status par code r g' → Planted k h b status par code s h' → (r ≡ s) × Alike k g' h'
-      go (Ok x) (Ok y) u v = (refl, changed l u.1 v.1 (λ c r. u.2 c r ∙ l.cables c r ∙ sym (v.2 c r)) (records u.3 v.3))
-      go (Ok x) (Err e) u v = absurd (nothing v.0 (sym checks ∙ u.0))
-      go (Err d) (Ok y) u v = absurd (nothing u.0 (checks ∙ v.0))
-      go (Err d) (Err e) u v = (ap Err (only u.0 (checks ∙ v.0)), kept u.1 v.1 l)
 
   -- a turn that is accepted in one is not refused in the other
   not_refused : (g h : Hall V) (s : ℕ) → Alike k g h → AllEnabled k g s → (s ≡ 0 → ⊥) → (f : Fault) → TurnFault k h s f → ⊥

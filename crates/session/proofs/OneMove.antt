@@ -15,35 +15,8 @@ use Rattle.rules.specs.declared.verdict.Verdict.TheVariants.{RC, REB, REF, RI, R
 use Rattle.network.proofs.Views.{clash}
 
 module _ {V : Type 0} {k : Kind V} (laws : Laws k) (own : Record V) (near : ℕ → Option (Seen V)) where
-  not_RR : (t : Status) → same t I ≡ false → same t EF ≡ false → own.status ≡ t → Enabled k own near RR → ⊥
-  not_RR t i ef e h = ⊎_elim (λ s. clash e s i) (λ s. clash e s.0 ef) h.1
-
   pub one_verdict : (u v : Verdict) → Enabled k own near u → Enabled k own near v → u ≡ v
-  one_verdict RC RC p q = refl
-  one_verdict RC REB p q = absurd (q.1 p.1)
-  one_verdict RC REF p q = absurd (clash p.0 q.0 refl)
-  one_verdict RC RI p q = absurd (clash p.0 q.0 refl)
-  one_verdict RC RR p q = absurd (not_RR C refl refl p.0 q)
-  one_verdict REB RC p q = absurd (p.1 q.1)
-  one_verdict REB REB p q = refl
-  one_verdict REB REF p q = absurd (clash p.0 q.0 refl)
-  one_verdict REB RI p q = absurd (clash p.0 q.0 refl)
-  one_verdict REB RR p q = absurd (not_RR C refl refl p.0 q)
-  one_verdict REF RC p q = absurd (clash p.0 q.0 refl)
-  one_verdict REF REB p q = absurd (clash p.0 q.0 refl)
-  one_verdict REF REF p q = refl
-  one_verdict REF RI p q = absurd (clash p.0 q.0 refl)
-  one_verdict REF RR p q = absurd (not_RR EB refl refl p.0 q)
-  one_verdict RI RC p q = absurd (clash p.0 q.0 refl)
-  one_verdict RI REB p q = absurd (clash p.0 q.0 refl)
-  one_verdict RI REF p q = absurd (clash p.0 q.0 refl)
-  one_verdict RI RI p q = refl
-  one_verdict RI RR p q = absurd (p.2 q.0)
-  one_verdict RR RC p q = absurd (not_RR C refl refl q.0 p)
-  one_verdict RR REB p q = absurd (not_RR C refl refl q.0 p)
-  one_verdict RR REF p q = absurd (not_RR EB refl refl q.0 p)
-  one_verdict RR RI p q = absurd (q.2 p.0)
-  one_verdict RR RR p q = refl
+  one_verdict u v p q = grind arith
 
   one_least : (p q : ℕ) (l m : V) → LeastOffer k near p l → LeastOffer k near q m → (p ≡ q) × (l ≡ m)
   one_least p q l m x y = (
@@ -54,11 +27,9 @@ module _ {V : Type 0} {k : Kind V} (laws : Laws k) (own : Record V) (near : ℕ 
 
   one_taken : (x y : Record V) → Takes k near x → Takes k near y → x ≡ y
   one_taken x y p q =
-      let e = one_least x.par y.par x.length y.length p.1 q.1 in
-      same_record x y (p.0 ∙ sym q.0) e.0 e.1
-    where
-      same_record : (a b : Record V) → a.status ≡ b.status → a.par ≡ b.par → a.length ≡ b.length → a ≡ b
-      same_record a b s e l = λ i. record { status = s i; par = e i; length = l i }
+      let status = p.0 ∙ sym q.0 in
+      let least = one_least x.par y.par x.length y.length p.1 q.1 in
+      λ i. record { status = status i; par = least.0 i; length = least.1 i }
 
   pub one_effect : (v : Verdict) (x y : Record V) → Effect k own near v x → Effect k own near v y → x ≡ y
   one_effect RC x y p q = one_taken x y p q

@@ -28,6 +28,7 @@ use Rattle.session.specs.declared.halls.AnyHall.{AnyHall}
 use Rattle.session.specs.declared.halls.AnyHall.TheVariants.{Metres, Grade}
 use Rattle.session.specs.declared.obey.Reply.{Reply}
 use Rattle.session.specs.declared.obey.Reply.TheVariants.{Done, Moved, Counts, Boards}
+use Rattle.session.proofs.Answering.{makes_or_wants}
 use Rattle.session.proofs.OneHall.{Alike, one_wires, one_cuts, one_planted, one_turns, one_settles, one_tally, one_shown, one_made, kept}
 
 -- the answer to a line from the answer of the hall
@@ -35,11 +36,16 @@ abbrev answered : {A : Type 0} → (A → Reply) → Result A Fault → Result R
 answered reply (Ok a) = Ok (reply a)
 answered reply (Err f) = Err (Refusing f)
 
+becomes : {A : Type 0} (reply : A → Reply) {P : Result A Fault → Type 0} (r : Result Reply ScriptFault) → Becomes reply P r → (x : Result A Fault) × (r ≡ answered reply x) × P x
+becomes reply (Ok x) p = (Ok p.0, ap Ok p.1, p.2)
+becomes reply (Err e) p = (Err p.0, ap Err p.1, p.2)
+
 one_becomes : {A : Type 0} (reply : A → Reply) {P Q : Result A Fault → Type 0} {X : Type 0} → ((x y : Result A Fault) → P x → Q y → (x ≡ y) × X) → (r s : Result Reply ScriptFault) → Becomes reply P r → Becomes reply Q s → (r ≡ s) × X
-one_becomes reply one (Ok x) (Ok y) p q = let o = one (Ok p.0) (Ok q.0) p.2 q.2 in (ap Ok p.1 ∙ ap (answered reply) o.0 ∙ sym (ap Ok q.1), o.1)
-one_becomes reply one (Ok x) (Err e) p q = let o = one (Ok p.0) (Err q.0) p.2 q.2 in (ap Ok p.1 ∙ ap (answered reply) o.0 ∙ sym (ap Err q.1), o.1)
-one_becomes reply one (Err d) (Ok y) p q = let o = one (Err p.0) (Ok q.0) p.2 q.2 in (ap Err p.1 ∙ ap (answered reply) o.0 ∙ sym (ap Ok q.1), o.1)
-one_becomes reply one (Err d) (Err e) p q = let o = one (Err p.0) (Err q.0) p.2 q.2 in (ap Err p.1 ∙ ap (answered reply) o.0 ∙ sym (ap Err q.1), o.1)
+one_becomes reply {P = P} {Q = Q} one r s p q =
+    let x = becomes reply {P = P} r p in
+    let y = becomes reply {P = Q} s q in
+    let o = one x.0 y.0 x.2 y.2 in
+    (x.1 ∙ ap (answered reply) o.0 ∙ sym y.1, o.1)
 
 module _ {V : Type 0} {k : Kind V} (laws : Laws k) where
   one_named : (g h g' h' : Hall V) (beyond : Bool) (set : ℕ) → Alike k g h → (r s : Result ℕ Fault) → TurnsNamed k g beyond set r g' → TurnsNamed k h beyond set s h' → (r ≡ s) × Alike k g' h'
@@ -112,14 +118,11 @@ one_commands g h g' h' (both {g = x} {h = y} l) command r s p q =
     let o = one_obeys_any x y p.0 q.0 l command r s p.2 q.2 in (o.0, along_here p.1 q.1 (both o.1))
 
 one_does : (g h g' h' : Option AnyHall) → AlikeHere g h → (command : Command) (r s : Result Reply ScriptFault) → Does command g r g' → Does command h s h' → (r ≡ s) × AlikeHere g' h'
-one_does g h g' h' l (New n kind) = one_opens g h g' h' l kind n
-one_does g h g' h' l (Wire a p b q w) = one_commands g h g' h' l (Wire a p b q w)
-one_does g h g' h' l (Cut b p) = one_commands g h g' h' l (Cut b p)
-one_does g h g' h' l (Plant b status par code) = one_commands g h g' h' l (Plant b status par code)
-one_does g h g' h' l (Turn boards) = one_commands g h g' h' l (Turn boards)
-one_does g h g' h' l (Settle name) = one_commands g h g' h' l (Settle name)
-one_does g h g' h' l (Tally b) = one_commands g h g' h' l (Tally b)
-one_does g h g' h' l Show = one_commands g h g' h' l Show
+one_does g h g' h' l command r s =
+    ⊎_elim
+    (λ m. subst (λ c. Does c g r g' → Does c h s h' → (r ≡ s) × AlikeHere g' h') (sym m.2) (one_opens g h g' h' l m.1 m.0 r s))
+    (λ same. subst (λ D. D g r g' → D h s h' → (r ≡ s) × AlikeHere g' h') (sym same) (one_commands g h g' h' l command r s))
+    (makes_or_wants command)
 
 one_follows : (g h g' h' : Option AnyHall) → AlikeHere g h → (reading : Result Command Misread) (r s : Result Reply ScriptFault) → Follows reading g r g' → Follows reading h s h' → (r ≡ s) × AlikeHere g' h'
 one_follows g h g' h' l (Ok command) r s p q = one_does g h g' h' l command r s p q

@@ -1,9 +1,7 @@
 -- The lines of a transcript.
-use Rattle.std.specs.Prelude.{◌≡◌, ℕ, ◌+◌, ◌≤◌, List, [], ◌∷◌, ◌++◌, Some, None, Ok, codes, decimal, Option}
+use Rattle.std.specs.Prelude.{◌≡◌, ℕ, ◌+◌, ◌≤◌, List, [], ◌∷◌, ◌++◌, Ok, codes, decimal}
 use Rattle.lengths.specs.Kind.{Kind}
-use Rattle.rules.specs.declared.status.Status.{Status}
-use Rattle.rules.specs.declared.status.Status.TheVariants.{I, C, EB, EF}
-use Rattle.rules.specs.declared.verdict.Verdict.{Verdict}
+use Rattle.rules.specs.Texts.{status_name, verdict_name}
 use Rattle.rules.specs.declared.verdict.Verdict.TheVariants.{RC, REB, REF, RI, RR}
 use Rattle.hall.specs.Hall.{boards_in, count_of, Looks}
 use Rattle.hall.specs.declared.questions.Look.{Look}
@@ -17,22 +15,6 @@ abbrev pub text_line : List (List ℕ) → List ℕ
 text_line [] = 10 ∷ []
 text_line (w ∷ []) = w ++ 10 ∷ []
 text_line (w ∷ v ∷ ws) = w ++ 32 ∷ text_line (v ∷ ws)
-
--- the word of a status
-abbrev pub status_name : Status → List ℕ
-status_name I = codes "I"
-status_name C = codes "C"
-status_name EB = codes "EB"
-status_name EF = codes "EF"
-
--- the word of a verdict, or a sign that there is none
-abbrev pub verdict_name : Option Verdict → List ℕ
-verdict_name None = codes "-"
-verdict_name (Some RC) = codes "RC"
-verdict_name (Some REB) = codes "REB"
-verdict_name (Some REF) = codes "REF"
-verdict_name (Some RI) = codes "RI"
-verdict_name (Some RR) = codes "RR"
 
 -- a board: its number, status, par, the code of its length, and its verdict
 abbrev pub board_text : {V : Type 0} → Kind V → ℕ → Look V → List ℕ

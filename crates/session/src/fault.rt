@@ -17,17 +17,6 @@ pub enum ScriptFault {
 }
 
 impl ScriptFault {
-    // The number of this refusal.
-    pub fn number(self) -> u32
-        ensures { result ≡ script_number self }
-    {
-        match self {
-            ScriptFault::Misread(misread) => misread.number(),
-            ScriptFault::NoHall => 34,
-            ScriptFault::Hall(fault) => fault.number(),
-        }
-    }
-
     // The byte of the line, counted from 1, that this refusal points at.
     pub fn byte(self) -> usize
         ensures { result ≡ script_byte self }
@@ -35,6 +24,19 @@ impl ScriptFault {
         match self {
             ScriptFault::Misread(misread) => misread.byte(),
             _ => 1,
+        }
+    }
+}
+
+// The number of a refusal.
+impl From<ScriptFault> for u32 {
+    ghost from_gives = { λ f n. n ≡ script_number f };
+
+    fn from(fault: ScriptFault) -> u32 {
+        match fault {
+            ScriptFault::Misread(misread) => u32::from(misread),
+            ScriptFault::NoHall => 34,
+            ScriptFault::Hall(fault) => u32::from(fault),
         }
     }
 }

@@ -10,7 +10,8 @@ use hall::{Fault, Hall};
 use lengths::{Grade, Metres};
 use std::alloc::AllocError;
 
-// A hall, by its kind of length.
+// A hall, by its kind of length. The kinds are two, so each call is a match: a `dyn` hall would be made here and handed out,
+// which the gate refuses.
 #[derive(Drop)]
 pub enum AnyHall {
     Metres(Hall<Metres>),
@@ -23,8 +24,8 @@ impl AnyHall {
         ensures { MakesAny kind boards result }
     {
         match kind {
-            Kind::Metres => Ok(AnyHall::Metres(Hall::new(boards)?)),
-            Kind::Grade => Ok(AnyHall::Grade(Hall::new(boards)?)),
+            Kind::Metres => Hall::new(boards).map(AnyHall::Metres),
+            Kind::Grade => Hall::new(boards).map(AnyHall::Grade),
         }
     }
 

@@ -26,7 +26,7 @@ fn turn<L: Length>(hall: &mut Hall<L>, boards: Boards) -> Result<u32, Fault>
     hall.turn(boards.set)
 }
 
-// Settles with a new picker of this name.
+// Settles with a new picker of this name: each picker is a type of its own, and a match gives it its call.
 fn settle<L: Length>(hall: &mut Hall<L>, name: PickerName)
     ensures { SettlesNamed L.Length.meaning name hall.old hall.new }
 {

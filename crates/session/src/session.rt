@@ -6,7 +6,6 @@ ghost use Rattle.session.specs.Texts.{Appends};
 use crate::fault::ScriptFault;
 use crate::halls::AnyHall;
 use crate::obey::Reply;
-use crate::text::{put, put_counts, put_refusal};
 use commands::{Command, Kind, read_command};
 use std::alloc::{AllocError, Global};
 use words::next_line;
@@ -37,9 +36,7 @@ impl Session {
         if let Command::New { boards, kind } = command {
             return self.open(boards, kind);
         }
-        let Some(hall) = self.hall.as_mut() else {
-            return Err(ScriptFault::NoHall);
-        };
+        let hall = self.hall.as_mut().ok_or(ScriptFault::NoHall)?;
         hall.obey(command)
     }
 
@@ -53,14 +50,17 @@ impl Session {
         ensures { OnOk result (Appends (Printed self.now.hall number answer) (string_bytes out.old) (string_bytes out.new)) }
     {
         match answer {
-            Ok(Reply::Done) => put(out, "ok\n"),
-            Ok(Reply::Moved(count)) => put(out, format_args!("moved {count}\n")),
-            Ok(Reply::Counts(tally)) => put_counts(out, tally),
+            Ok(Reply::Done) => writeln!(out, "ok"),
+            Ok(Reply::Moved(count)) => writeln!(out, "moved {count}"),
+            Ok(Reply::Counts(tally)) => writeln!(out, "{tally}"),
             Ok(Reply::Boards) => match &self.hall {
                 Some(hall) => hall.show(out),
                 None => Ok(()),
             },
-            Err(fault) => put_refusal(out, number, fault),
+            Err(fault) => {
+                let (refusal, byte) = (u32::from(fault), fault.byte());
+                writeln!(out, "no {refusal} {number} {byte}")
+            }
         }
     }
 

@@ -4,12 +4,7 @@ use Rattle.session.specs.Transcript.{Answering, Transcript}
 use Rattle.session.proofs.OneTranscript.{one_transcript}
 use Rattle.session.proofs.session.transcript.Goals as goal
 
-pub returns : goal.returns
-returns c =
-    let script = c.args.script.now in
-    let r = c.answers.result in
-    record {
-      says = IfOk-weaker r (λ s. Answering script (string_bytes s)) (λ s. Transcript script (string_bytes s)) (λ s h. inr (omega arith, h)) c.answers.ensures;
-      only = IfOk-weaker r (λ s. Answering script (string_bytes s)) (λ s. (t : List ℕ) → Transcript script t → t ≡ string_bytes s)
-          (λ s h t other. one_transcript script t (string_bytes s) other (inr (omega arith, h))) c.answers.ensures;
-    }
+pub returns-clause-only : goal.returns-clause-only
+returns-clause-only c =
+    IfOk-weaker c.answers.result (λ s. Answering c.args.script.now (string_bytes s)) (λ s. (t : List ℕ) → Transcript c.args.script.now t → t ≡ string_bytes s)
+    (λ s h t other. one_transcript c.args.script.now t (string_bytes s) other (inr (omega arith, h))) c.answers.ensures

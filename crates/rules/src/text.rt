@@ -1,0 +1,46 @@
+ghost use Rattle.std.specs.Prelude.{Some};
+ghost use Rattle.rules.specs.Texts.{status_name, rule_name, record_text};
+
+use crate::record::Record;
+use crate::status::Status;
+use crate::verdict::Verdict;
+use lengths::Length;
+use std::fmt;
+
+// A status by its word.
+impl fmt::Display for Status {
+    ghost output = { λ s. Some (status_name s) };
+
+    fn fmt<W: fmt::Write>(&self, f: &mut fmt::Formatter<W>) -> fmt::Result {
+        f.write_str(match self {
+            Status::I => "I",
+            Status::C => "C",
+            Status::EB => "EB",
+            Status::EF => "EF",
+        })
+    }
+}
+
+// A rule by its word.
+impl fmt::Display for Verdict {
+    ghost output = { λ v. Some (rule_name v) };
+
+    fn fmt<W: fmt::Write>(&self, f: &mut fmt::Formatter<W>) -> fmt::Result {
+        f.write_str(match self {
+            Verdict::RC => "RC",
+            Verdict::REB => "REB",
+            Verdict::REF => "REF",
+            Verdict::RI => "RI",
+            Verdict::RR => "RR",
+        })
+    }
+}
+
+// A record: its status, its par and the code of its length.
+impl<L: Length> fmt::Display for Record<L> {
+    ghost output = { λ own. Some (record_text L.Length.meaning own) };
+
+    fn fmt<W: fmt::Write>(&self, f: &mut fmt::Formatter<W>) -> fmt::Result {
+        write!(f, "{} {} {}", self.status, self.par, self.length.code())
+    }
+}
