@@ -5,6 +5,7 @@ use Rattle.words.specs.Numerals.{Numeral}
 use Rattle.words.specs.Pieces.{Lacks, First}
 use Rattle.words.specs.Lines.{FirstLine, Lines}
 use Rattle.words.specs.Words.{Word, spaced, Spaced}
+use Rattle.words.proofs.Counting.{words_pieces}
 
 -- what lacks a stop holds none
 pub stop_lacks : (stop : ℕ) (a r : List ℕ) → Lacks stop (a ++ stop ∷ r) → ⊥
@@ -79,11 +80,7 @@ pub same_words : (vs ws : List (List ℕ)) (bytes : List ℕ) → Spaced vs byte
 same_words [] [] bytes p q = refl
 same_words [] (w ∷ ws) bytes p q = absurd (omega (arith, ap length p.0, some_bytes w ws bytes q))
 same_words (v ∷ vs) [] bytes p q = absurd (omega (arith, ap length q.0, some_bytes v vs bytes p))
-same_words (v ∷ vs) (w ∷ ws) bytes p q =
-    let next = next_word v vs w (spaced ws) bytes p (first_word w ws bytes q) in
-    let more = same_words vs ws (spaced ws) next.1 (refl, q.1.1) in
-    let heads = sym next.0 in
-    λ i. heads i ∷ more i
+same_words (v ∷ vs) (w ∷ ws) bytes p q = words_pieces (v ∷ vs) bytes (omega arith) p ∙ sym (words_pieces (w ∷ ws) bytes (omega arith) q)
 
 pub same_number : (bytes : List ℕ) (m n : ℕ) → Numeral bytes m → Numeral bytes n → m ≡ n
 same_number bytes m n p q = sym p.writes ∙ q.writes
