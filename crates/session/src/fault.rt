@@ -22,7 +22,7 @@ impl ScriptFault {
         ensures { result ≡ script_number self }
     {
         match self {
-            ScriptFault::Misread(misread) => misread.number(),
+            ScriptFault::Misread(misread) => u32::from(misread),
             ScriptFault::NoHall => 34,
             ScriptFault::Hall(fault) => fault.number(),
         }
