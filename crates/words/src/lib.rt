@@ -1,11 +1,15 @@
 // Cuts a script into lines and a line into words, and reads numerals. Nothing is copied: the pieces borrow the script.
 #![tactic(auto)]
 
+mod lines;
+
 ghost use Rattle.std.specs.Prelude.{◌≡◌, ℕ, [], Decides, MatchOption};
 ghost use Rattle.words.specs.Pieces.{Cut, First};
 ghost use Rattle.words.specs.Lines.{FirstLine};
 ghost use Rattle.words.specs.Words.{Word, Counted};
 ghost use Rattle.words.specs.Numerals.{Numeral};
+
+pub use lines::Lines;
 
 // A numeral has no more digits than this.
 const DIGITS: usize = 10;
