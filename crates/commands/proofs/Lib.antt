@@ -1,7 +1,5 @@
 mod Taking
 mod Members
-mod One
-mod Two
-mod Places
+mod Naming
 mod Whole
 pub mod Unique

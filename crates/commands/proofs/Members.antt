@@ -1,20 +1,11 @@
 -- One more board in a set.
-use Rattle.std.proofs.Common.{◌≡◌, ℕ, ◌^◌, ◌<◌, false, ◌&&◌, ◌||◌, eqb, ltb, leb, List, [], ◌∷◌, ◌++◌, sym, ap, ◌∙◌, subst, ⊎_elim, arith}
+use Rattle.std.proofs.Common.{◌≡◌, ℕ, ◌^◌, ◌<◌, ◌&&◌, ◌||◌, eqb, ltb, leb, List, [], ◌∷◌, ◌++◌, sym, ◌∙◌, subst, ⊎_elim, arith}
 use Rattle.std.specs.List.{ContainsAt as Has}
 use Rattle.std.proofs.ByRecursion.{has_push, has_push_cases, has_append_left}
-use Rattle.std.proofs.lemmas.Bool.{both_ways, eqb-true, eq-eqb, lt-ltb, leb-true, le-leb, and_parts, and_from, or_cases, or_left, or_right}
+use Rattle.std.proofs.lemmas.Bool.{eqb-true, eq-eqb, lt-ltb, leb-true, le-leb, and_parts, and_from, or_cases, or_left, or_right}
 use Rattle.sets.specs.Sets.{has}
-use Rattle.sets.proofs.Bits.{has_zero}
 use Rattle.commands.specs.declared.boards.Boards.{Boards}
 use Rattle.commands.specs.Sets.{SetOf}
-
-pub set_none : (boards : Boards) → boards.set ≡ 0 → boards.beyond ≡ false → SetOf boards []
-set_none boards e f = record {
-  small = omega (arith, e);
-  named = λ i h m. absurd (both_ways (has boards.set i) (ap (λ s. has s i) e ∙ has_zero i) m);
-  held = λ i h m. absurd (omega (arith, m.1));
-  others = (λ t. absurd (both_ways boards.beyond f t), λ m. absurd (omega (arith, m.2.1)));
-}
 
 pub set_more : (boards more : Boards) (ns : List ℕ) (n : ℕ) → more.set < 2 ^ 64 → ((b : ℕ) → has more.set b ≡ (has boards.set b || (eqb b n && ltb n 64))) → more.beyond ≡ (boards.beyond || leb 64 n) → SetOf boards ns → SetOf more (ns ++ n ∷ [])
 set_more boards more ns n small e f h = record {

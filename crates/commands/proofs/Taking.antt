@@ -15,9 +15,6 @@ pub record Taken (fs gs : List (List ℕ)) (rest ns : List ℕ) : Type 0 where
 abbrev pub Reads : List (List ℕ) → List ℕ → List ℕ → Type 0
 Reads fs rest ns = (gs : List (List ℕ)) × Taken fs gs rest ns
 
-pub none_taken : (fs : List (List ℕ)) (bytes : List ℕ) → Spaced fs bytes → Reads fs bytes []
-none_taken fs bytes h = (fs, record { over = h; count = omega arith; join = λ ms p. p; miss = λ left p. p })
-
 pub one_taken : (fs gs : List (List ℕ)) (rest ns : List ℕ) (n : ℕ) (after : Bor (List ℕ)) → Taken fs gs rest ns → 0 < length gs → TakesNumber rest (Some (n, after)) → Reads fs after.now (ns ++ n ∷ [])
 one_taken fs [] rest ns n after t some k = absurd (omega arith)
 one_taken fs (g ∷ gs) rest ns n after t some k =

@@ -18,7 +18,6 @@ use Rattle.commands.specs.declared.verb.Verb.TheVariants as verb
 use Rattle.commands.specs.Commands.{verb_of, Says, Written, Reading}
 use Rattle.commands.specs.Fields.{Sort, numeral, kind_word, picker_word, Fits, Counts, sorts, name_of, kind_name, picker_name, Misfit, Numerals}
 use Rattle.commands.specs.Sets.{SetOf}
-use Rattle.commands.proofs.Places.{numerals_length}
 
 -- Sets: those with the same members are the same
 
@@ -28,7 +27,7 @@ same_set a b ns p q =
     let tests = same_test a.beyond b.beyond (λ t. q.others.1 (p.others.0 t)) (λ t. p.others.1 (q.others.0 t)) in
     λ j. record { set = sets j; beyond = tests j }
 
--- Words: those of two verbs, of two kinds, or of two pickers, differ in their first two bytes
+-- Words: those of two verbs differ in their first two bytes, and those of two kinds or two pickers in their length
 
 abbrev key : List ℕ → ℕ
 key name = get_or name 0 0 * 256 + get_or name 1 0
@@ -56,25 +55,17 @@ by_name verb.Show = refl
 same_verb : (v w : Verb) → name_of v ≡ name_of w → v ≡ w
 same_verb v w e = sym (by_name v) ∙ ap (λ name. verb_by (key name)) e ∙ by_name w
 
-abbrev kind_by : ℕ → Kind
-kind_by k = cond (eqb k (key (kind_name Metres))) Metres Grade
-
-by_kind : (k : Kind) → kind_by (key (kind_name k)) ≡ k
-by_kind Metres = refl
-by_kind Grade = refl
-
 same_kind : (k l : Kind) → kind_name k ≡ kind_name l → k ≡ l
-same_kind k l e = sym (by_kind k) ∙ ap (λ name. kind_by (key name)) e ∙ by_kind l
-
-abbrev picker_by : ℕ → PickerName
-picker_by k = cond (eqb k (key (picker_name All))) All Ring
-
-by_picker : (p : PickerName) → picker_by (key (picker_name p)) ≡ p
-by_picker All = refl
-by_picker Ring = refl
+same_kind Metres Metres e = refl
+same_kind Metres Grade e = absurd (omega (arith, ap length e))
+same_kind Grade Metres e = absurd (omega (arith, ap length e))
+same_kind Grade Grade e = refl
 
 same_picker : (p q : PickerName) → picker_name p ≡ picker_name q → p ≡ q
-same_picker p q e = sym (by_picker p) ∙ ap (λ name. picker_by (key name)) e ∙ by_picker q
+same_picker All All e = refl
+same_picker All Ring e = absurd (omega (arith, ap length e))
+same_picker Ring All e = absurd (omega (arith, ap length e))
+same_picker Ring Ring e = refl
 
 -- Fields: they say one command of a verb
 
@@ -249,6 +240,12 @@ says_fits (command.Turn boards) fs h = numbers_fit h.0 fs h.1
 says_fits (command.Settle p) fs h = subst (Fitting (picker_word ∷ [])) (sym h) ((p, refl), tt)
 says_fits (command.Tally b) fs h = numbers_fit (b ∷ []) fs h
 says_fits command.Show fs h = numbers_fit [] fs h
+
+numerals_length : (ns : List ℕ) (fs : List (List ℕ)) → Numerals ns fs → length ns ≡ length fs
+numerals_length [] [] h = refl
+numerals_length [] (f ∷ fs) h = absurd h
+numerals_length (n ∷ ns) [] h = absurd h
+numerals_length (n ∷ ns) (f ∷ fs) h = omega (arith, numerals_length ns fs h.1)
 
 says_counts : (c : Command) (fs : List (List ℕ)) → Says c fs → Counts (verb_of c) (length fs)
 says_counts (command.New n k) fs h = ap length h.1

@@ -1,11 +1,15 @@
 -- A line as a first word and the fields after it.
-use Rattle.std.proofs.Common.{◌≡◌, ℕ, ◌+◌, ◌-◌, ◌≤◌, List, [], ◌∷◌, length, sym, ap, ◌∙◌, subst, inl, inr, ⊎_elim, arith, length-append}
+use Rattle.std.proofs.Common.{◌≡◌, ℕ, ◌+◌, ◌-◌, ◌≤◌, List, [], ◌∷◌, length, Ok, Err, Result, refl, sym, ap, ◌∙◌, subst, inl, inr, ⊎_elim, arith, length-append}
 use Rattle.words.specs.Pieces.{First}
 use Rattle.words.specs.Words.{spaced, Spaced, Words}
 use Rattle.words.proofs.Unique.{next_word}
-use Rattle.commands.specs.Commands.{Written}
-use Rattle.commands.specs.Fields.{Sort, Misfit}
-use Rattle.commands.specs.Steps.{Left}
+use Rattle.commands.specs.declared.command.Command.{Command}
+use Rattle.commands.specs.declared.misread.Misread.{Misread}
+use Rattle.commands.specs.declared.misread.Misread.TheVariants.{Field}
+use Rattle.commands.specs.declared.verb.Verb.{Verb}
+use Rattle.commands.specs.Commands.{Written, Reading}
+use Rattle.commands.specs.Fields.{Sort, Misfit, Counts, name_of, sorts}
+use Rattle.commands.specs.Steps.{Left, Answered}
 
 -- the line's words are `word` and fs, which `rest` writes
 pub record Parts (line word rest : List ℕ) (count : ℕ) (fs : List (List ℕ)) : Type 0 where
@@ -56,3 +60,10 @@ at_byte line word ss (f ∷ fs) left h m =
     let whole = ap length (sym h.1.1.0) ∙ length-append word (32 ∷ spaced (f ∷ fs)) in
     let inside = left_within ss (f ∷ fs) left m in
     (omega arith, misfit ss (f ∷ fs) (length word + 2) (length line - left + 1) left m (omega arith))
+
+-- what a line says that begins with the word of a verb, and has as many fields as it takes
+pub reading : (line : List ℕ) (v : Verb) (fs : List (List ℕ)) (rest : List ℕ) (count : ℕ) → Parts line (name_of v) rest count fs → Counts v (length fs) → (r : Result Command ℕ) → Answered v rest r → (out : Result Command Misread) → ((c : Command) → r ≡ Ok c → out ≡ Ok c) → ((left : ℕ) → r ≡ Err left → out ≡ Err (Field (length line - left + 1))) → Reading line out
+reading line v fs rest count p takes (Ok c) told out ok err =
+    rw (ok c refl) (fs, subst (λ w. Written line (name_of w) fs) (sym told.0) p.written, told.1 fs p.over takes)
+reading line v fs rest count p takes (Err left) told out ok err =
+    rw (err left refl) (v, fs, p.written, takes, (at_byte line (name_of v) (sorts v (length fs)) fs left p.written (told fs p.over takes)).1)

@@ -5,18 +5,14 @@ ghost use Rattle.commands.specs.Sets.{SetOf};
 const BOARDS: u32 = 64;
 
 // The boards that a turn names: those below 64 as bits, and whether any other is named.
-#[derive(Clone, Copy)]
+// No Option: what the set holds is promised also where `beyond` is true.
+#[derive(Clone, Copy, Debug, Default, PartialEq, Eq)]
 pub struct Boards {
     pub set: u64,
     pub beyond: bool,
 }
 
 impl Boards {
-    pub(crate) const NONE: Boards = Boards {
-        set: 0,
-        beyond: false,
-    };
-
     // These boards and one more.
     pub(crate) fn with(self, board: u32) -> Boards
         ensures { (ns : List ℕ) → SetOf self ns → SetOf result (ns ++ board ∷ []) }

@@ -1,21 +1,21 @@
 use crate::boards::Boards;
 
 // How lengths are counted in a hall.
-#[derive(Clone, Copy)]
+#[derive(Clone, Copy, Debug, PartialEq, Eq)]
 pub enum Kind {
     Metres,
     Grade,
 }
 
 // Who picks the boards that move next while a hall settles.
-#[derive(Clone, Copy)]
+#[derive(Clone, Copy, Debug, PartialEq, Eq)]
 pub enum PickerName {
     All,
     Ring,
 }
 
 // What a line asks for.
-#[derive(Clone, Copy)]
+#[derive(Clone, Copy, Debug, PartialEq, Eq)]
 pub enum Command {
     New {
         boards: u32,

@@ -20,11 +20,9 @@ pub(crate) fn numbers<const N: usize>(fields: &[u8]) -> Result<[u32; N], usize>
 {
     let mut found = [0; N];
     let mut rest = fields;
-    for i in 0..N {
-        let Some((n, after)) = number_field(rest) else {
-            return Err(rest.len());
-        };
-        found[i] = n;
+    for slot in &mut found {
+        let (n, after) = number_field(rest).ok_or(rest.len())?;
+        *slot = n;
         rest = after;
     }
     Ok(found)
@@ -34,12 +32,10 @@ pub(crate) fn numbers<const N: usize>(fields: &[u8]) -> Result<[u32; N], usize>
 pub(crate) fn named_boards(fields: &[u8]) -> Result<Boards, usize>
     ensures { Named fields.now result }
 {
-    let mut named = Boards::NONE;
+    let mut named = Boards::default();
     let mut rest = fields;
     while !rest.is_empty() {
-        let Some((board, after)) = number_field(rest) else {
-            return Err(rest.len());
-        };
+        let (board, after) = number_field(rest).ok_or(rest.len())?;
         named = named.with(board);
         rest = after;
     }
@@ -50,12 +46,8 @@ pub(crate) fn named_boards(fields: &[u8]) -> Result<Boards, usize>
 pub(crate) fn opening(fields: &[u8]) -> Result<(u32, Kind), usize>
     ensures { Opened fields.now result }
 {
-    let Some((boards, rest)) = number_field(fields) else {
-        return Err(fields.len());
-    };
+    let (boards, rest) = number_field(fields).ok_or(fields.len())?;
     // The second field is the last, so it is all that is left.
-    match kind_of(rest) {
-        Some(kind) => Ok((boards, kind)),
-        None => Err(rest.len()),
-    }
+    let kind = kind_of(rest).ok_or(rest.len())?;
+    Ok((boards, kind))
 }

@@ -2,7 +2,7 @@ ghost use Rattle.std.specs.Prelude.{◌≡◌};
 ghost use Rattle.commands.specs.Misreads.{number_of, byte_of};
 
 // Why a line is no command.
-#[derive(Clone, Copy)]
+#[derive(Clone, Copy, Debug, PartialEq, Eq)]
 pub enum Misread {
     Malformed,
     Unknown,
@@ -10,19 +10,21 @@ pub enum Misread {
     Field { byte: usize },
 }
 
-impl Misread {
-    // The number of this refusal.
-    pub fn number(self) -> u32
-        ensures { result ≡ number_of self }
-    {
-        match self {
+// The number of a refusal.
+impl From<Misread> for u32 {
+    ghost from_gives = { λ m r. r ≡ number_of m };
+
+    fn from(misread: Misread) -> u32 {
+        match misread {
             Misread::Malformed => 30,
             Misread::Unknown => 31,
             Misread::Count => 32,
             Misread::Field { .. } => 33,
         }
     }
+}
 
+impl Misread {
     // The byte of the line, counted from 1, that this refusal points at.
     pub fn byte(self) -> usize
         ensures { result ≡ byte_of self }

@@ -38,10 +38,10 @@ fn command_of(verb: Verb, fields: &[u8]) -> Result<Command, usize>
         }
         Verb::Turn => Ok(Command::Turn(named_boards(fields)?)),
         // The only field is all that is left.
-        Verb::Settle => match picker_of(fields) {
-            Some(picker) => Ok(Command::Settle(picker)),
-            None => Err(fields.len()),
-        },
+        Verb::Settle => {
+            let picker = picker_of(fields).ok_or(fields.len())?;
+            Ok(Command::Settle(picker))
+        }
         Verb::Tally => {
             let [board] = numbers::<1>(fields)?;
             Ok(Command::Tally { board })
@@ -57,20 +57,13 @@ pub fn read_command(line: &[u8]) -> Result<Command, Misread>
     if line.len() > LONGEST {
         return Err(Misread::Malformed);
     }
-    let Some(count) = words::word_count(line) else {
-        return Err(Misread::Malformed);
-    };
+    let count = words::word_count(line).ok_or(Misread::Malformed)?;
     let (word, fields) = words::first(line, b' ');
-    let Some(verb) = verb_of(word) else {
-        return Err(Misread::Unknown);
-    };
+    let verb = verb_of(word).ok_or(Misread::Unknown)?;
     if !takes(verb, count - 1) {
         return Err(Misread::Count);
     }
-    match command_of(verb, fields) {
-        Ok(command) => Ok(command),
-        Err(left) => Err(Misread::Field {
-            byte: line.len() - left + 1,
-        }),
-    }
+    command_of(verb, fields).map_err(|left| Misread::Field {
+        byte: line.len() - left + 1,
+    })
 }

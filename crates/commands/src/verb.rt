@@ -2,7 +2,7 @@ ghost use Rattle.std.specs.Prelude.{Decides};
 ghost use Rattle.commands.specs.Fields.{Counts};
 
 // The first word of a command.
-#[derive(Clone, Copy)]
+#[derive(Clone, Copy, Debug, PartialEq, Eq)]
 pub(crate) enum Verb {
     New,
     Wire,

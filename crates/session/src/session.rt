@@ -8,7 +8,7 @@ use crate::halls::AnyHall;
 use crate::obey::Reply;
 use commands::{Command, Kind, read_command};
 use std::alloc::{AllocError, Global};
-use words::next_line;
+use words::Lines;
 
 // A longer script is refused as a whole.
 const LONGEST: usize = 65_536;
@@ -80,12 +80,8 @@ fn answers(heap: Global, script: &[u8]) -> Result<String, AllocError>
 {
     let mut out = String::new(heap);
     let mut session = Session { hall: None };
-    let mut rest = script;
-    let mut number = 1;
-    while let Some((line, after)) = next_line(rest) {
-        session.answer(&mut out, number, line)?;
-        rest = after;
-        number += 1;
+    for (index, line) in Lines::of(script).enumerate() {
+        session.answer(&mut out, index + 1, line)?;
     }
     Ok(out)
 }

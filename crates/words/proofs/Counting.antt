@@ -1,61 +1,38 @@
--- What one turn of `word_count` keeps.
-use Rattle.std.proofs.Common.{◌≡◌, ℕ, ◌+◌, ◌<◌, ◌≤◌, List, [], ◌∷◌, ◌++◌, length, Some, None, Option, sym, refl, ap, ◌∙◌, subst, inl, inr, arith, length-append, Bor}
-use Rattle.words.specs.Pieces.{Lacks, Cut, First}
-use Rattle.words.specs.Words.{Word, Words}
-use Rattle.words.proofs.Unique.{stop_lacks, word_lacks, next_word}
+-- The words of a line are the pieces that `split` gives.
+use Rattle.std.proofs.Common.{◌≡◌, ℕ, ◌<◌, ◌≤◌, eqb, false, List, [], ◌∷◌, ◌++◌, length, get_or, sym, refl, ap, ◌∙◌, subst, arith}
+use Rattle.std.specs.List.{AllByRecursion, slice_split, join_with_byte}
+use Rattle.std.proofs.ByRecursion.{All-get_or}
+use Rattle.std.proofs.lemmas.Bool.{ne_eqb}
+use Rattle.std.proofs.lemmas.List.Splits.{slice_split_none, slice_split_at, length-slice_split, join_with_byte-slice_split}
+use Rattle.words.specs.Words.{Word, spaced, Spaced, Words}
 
--- what `cut` gives, with an empty rest for none
-pub some_first : (bytes front : List ℕ) (after : Option (Bor (List ℕ))) → Cut 32 bytes front after → (rest : List ℕ) × First 32 front rest bytes
-some_first bytes front None h = ([], (h.0, inr (h.1, refl)))
-some_first bytes front (Some rest) h = (rest.now, (h.0, inl h.1))
+abbrev pub pieces : List ℕ → List (List ℕ)
+pieces line = slice_split (λ b. eqb b 32) line
 
--- the line's words are those of the rest, and count more, of which the next is the last
-pub record Sofar (line rest : List ℕ) (count : ℕ) : Type 0 where
-  pub up : (ws : List (List ℕ)) → Words ws rest → (vs : List (List ℕ)) × Words vs line × (length vs + 1 ≡ count + length ws)
-  pub down : (vs : List (List ℕ)) → Words vs line → (ws : List (List ℕ)) × Words ws rest
-  pub low : 0 < count
-  pub few : count + length rest ≤ length line + 1
+spaced_joins : (ws : List (List ℕ)) → spaced ws ≡ join_with_byte 32 ws
+spaced_joins [] = refl
+spaced_joins (w ∷ []) = refl
+spaced_joins (w ∷ v ∷ ws) = ap (λ l. w ++ 32 ∷ l) (spaced_joins (v ∷ ws))
 
-pub start : (line : List ℕ) → Sofar line line 1
-start line = record { up = λ ws h. (ws, h, omega arith); down = λ vs h. (vs, h); low = omega arith; few = omega arith }
+-- pieces that are words are the words of the line
+pub pieces_words : (line : List ℕ) → AllByRecursion Word (pieces line) → Words (pieces line) line
+pieces_words line h = (
+  omega (arith, length-slice_split (λ b. eqb b 32) line),
+  (spaced_joins (pieces line) ∙ join_with_byte-slice_split 32 line, h),
+)
 
--- the words of the rest begin with the first piece
-starts : (rest front after : List ℕ) (ws : List (List ℕ)) → Words ws rest → First 32 front after rest → Word front
-starts rest front after [] q f = absurd (omega (arith, q.0))
-starts rest front after (w ∷ ws) q f = subst Word (sym (next_word w ws front after rest q.1 f).0) q.1.1.0
+no_space : (w : List ℕ) → Word w → (k : ℕ) (d : ℕ) → k < length w → eqb (get_or w k d) 32 ≡ false
+no_space w h k d l = let b = All-get_or (λ b. (33 ≤ b) × (b ≤ 126)) w k d l h.1 in ne_eqb (get_or w k d) 32 (λ e. omega arith)
 
--- a first piece that is no word
-pub none : (line rest front after : List ℕ) (count : ℕ) → Sofar line rest count → First 32 front after rest → (Word front → ⊥) → (vs : List (List ℕ)) → Words vs line → ⊥
-none line rest front after count h f bad vs p =
-    let under = h.down vs p in
-    bad (starts rest front after under.0 under.1 f)
+-- and there are no other words
+pub words_pieces : (ws : List (List ℕ)) (line : List ℕ) → 0 < length ws → Spaced ws line → ws ≡ pieces line
+words_pieces [] line some h = absurd (omega arith)
+words_pieces (w ∷ []) line some h = sym (slice_split_none (λ b. eqb b 32) w (no_space w h.1.0)) ∙ ap pieces h.0
+words_pieces (w ∷ v ∷ ws) line some h =
+    ap (λ l. w ∷ l) (words_pieces (v ∷ ws) (spaced (v ∷ ws)) (omega arith) (refl, h.1.1))
+    ∙ sym (slice_split_at (λ b. eqb b 32) w 32 (spaced (v ∷ ws)) (no_space w h.1.0) refl)
+    ∙ ap pieces h.0
 
--- a piece that is the last
-pub last : (line rest : List ℕ) (count : ℕ) → Sofar line rest count → Word rest → (vs : List (List ℕ)) × Words vs line × (length vs ≡ count)
-last line rest count h w =
-    let all = h.up (rest ∷ []) (omega arith, (refl, (w, tt))) in
-    (all.0, all.1, omega (arith, all.2))
-
-module _ (line rest front after : List ℕ) (count : ℕ) (h : Sofar line rest count) (w : Word front) (lacks : Lacks 32 front) (e : rest ≡ front ++ 32 ∷ after) where
-  up_more : (ws : List (List ℕ)) → Words ws after → (vs : List (List ℕ)) × Words vs line × (length vs + 1 ≡ (count + 1) + length ws)
-  up_more [] p = absurd (omega (arith, p.0))
-  up_more (v ∷ ws) p =
-      let all = h.up (front ∷ v ∷ ws) (omega arith, (ap (λ l. front ++ 32 ∷ l) p.1.0 ∙ sym e, (w, p.1.1))) in
-      (all.0, all.1, omega (arith, all.2))
-
-  down_more : (ws : List (List ℕ)) → Words ws rest → (us : List (List ℕ)) × Words us after
-  down_more [] q = absurd (omega (arith, q.0))
-  down_more (v ∷ []) q = absurd (stop_lacks 32 front after (subst (Lacks 32) (q.1.0 ∙ e) (word_lacks v q.1.1.0)))
-  down_more (v ∷ u ∷ us) q = (u ∷ us, (omega arith, (next_word v (u ∷ us) front after rest q.1 (lacks, inl e)).1))
-
-  -- a word and the space after it
-  pub more : Sofar line after (count + 1)
-  more = record {
-    up = up_more;
-    down = λ vs p. down_more (h.down vs p).0 (h.down vs p).1;
-    low = omega arith;
-    few = omega (arith, h.few, simp length-append at (ap length e));
-  }
-
-pub shorter : (rest front after : List ℕ) → rest ≡ front ++ 32 ∷ after → length after < length rest
-shorter rest front after e = omega (arith, simp length-append at (ap length e))
+pub no_words : (line : List ℕ) (i : ℕ) (w : List ℕ) → i < length (pieces line) → w ≡ get_or (pieces line) i w → (Word w → ⊥) → (ws : List (List ℕ)) → Words ws line → ⊥
+no_words line i w inside is bad ws h =
+    bad (subst Word (sym is) (All-get_or Word (pieces line) i w inside (subst (AllByRecursion Word) (words_pieces ws line h.0 h.1) h.1.1)))

@@ -1,5 +1,4 @@
 pub mod Unique
 mod Cutting
 mod Counting
-mod Testing
 mod Digits

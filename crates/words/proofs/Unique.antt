@@ -3,8 +3,9 @@ use Rattle.std.proofs.Common.{◌≡◌, ℕ, ◌<◌, List, [], ◌∷◌, ◌+
 use Rattle.std.proofs.ByRecursion.{All-weaker}
 use Rattle.words.specs.Numerals.{Numeral}
 use Rattle.words.specs.Pieces.{Lacks, First}
-use Rattle.words.specs.Lines.{FirstLine, Lines}
+use Rattle.words.specs.Lines.{Lines}
 use Rattle.words.specs.Words.{Word, spaced, Spaced}
+use Rattle.words.proofs.Counting.{words_pieces}
 
 -- what lacks a stop holds none
 pub stop_lacks : (stop : ℕ) (a r : List ℕ) → Lacks stop (a ++ stop ∷ r) → ⊥
@@ -32,21 +33,6 @@ same_first stop a b r t bytes p q =
     (λ f. (sym e.0 ∙ f.0, e.1 ∙ sym f.1))
     q.1)
     p.1
-
--- the lines of a script are its first line and the lines of the rest
-pub lines_step : (line rest script : List ℕ) (lines : List (List ℕ)) → FirstLine line rest script → Lines lines rest → Lines (line ∷ lines) script
-lines_step line rest script lines f h = (rest, f, h)
-
--- what follows the first stop is shorter than the whole
-pub first_shorter : (stop : ℕ) (front rest bytes : List ℕ) → First stop front rest bytes → 0 < length bytes → length rest < length bytes
-first_shorter stop front rest bytes f some =
-    ⊎_elim
-    (λ e. omega (arith, simp length-append at (ap length e)))
-    (λ e. omega (arith, ap length e.1))
-    f.1
-
-pub rest_shorter : (line rest script : List ℕ) → FirstLine line rest script → length rest < length script
-rest_shorter line rest script f = first_shorter 10 line rest script f.1 f.0
 
 pub same_lines : (ks ls : List (List ℕ)) (script : List ℕ) → Lines ks script → Lines ls script → ks ≡ ls
 same_lines [] [] script p q = refl
@@ -79,11 +65,7 @@ pub same_words : (vs ws : List (List ℕ)) (bytes : List ℕ) → Spaced vs byte
 same_words [] [] bytes p q = refl
 same_words [] (w ∷ ws) bytes p q = absurd (omega (arith, ap length p.0, some_bytes w ws bytes q))
 same_words (v ∷ vs) [] bytes p q = absurd (omega (arith, ap length q.0, some_bytes v vs bytes p))
-same_words (v ∷ vs) (w ∷ ws) bytes p q =
-    let next = next_word v vs w (spaced ws) bytes p (first_word w ws bytes q) in
-    let more = same_words vs ws (spaced ws) next.1 (refl, q.1.1) in
-    let heads = sym next.0 in
-    λ i. heads i ∷ more i
+same_words (v ∷ vs) (w ∷ ws) bytes p q = words_pieces (v ∷ vs) bytes (omega arith) p ∙ sym (words_pieces (w ∷ ws) bytes (omega arith) q)
 
 pub same_number : (bytes : List ℕ) (m n : ℕ) → Numeral bytes m → Numeral bytes n → m ≡ n
 same_number bytes m n p q = sym p.writes ∙ q.writes

@@ -1,11 +1,9 @@
-use Rattle.std.proofs.Common.{arith}
-use Rattle.words.proofs.Cutting.{at_stop, at_the_end}
+use Rattle.std.proofs.Common.{rules}
+use Rattle.words.proofs.Cutting.{no_stop, at_stop}
 use Rattle.words.proofs.cut.Goals as goal
 
-pub returns-then-at-bytes : goal.returns-then-at-bytes
-returns-then-at-bytes c =
-    let found = c.before-at.ensures in
-    at_stop c.args.bytes.now c.before-at.result c.args.stop (omega arith) found.lacks (found.stops (omega arith))
+pub returns-in-Some : goal.returns-in-Some
+returns-in-Some c = at_stop c.args.bytes.now c.in-Some.at c.args.stop (search rules) (search rules) (search rules)
 
-pub returns-else-at-bytes : goal.returns-else-at-bytes
-returns-else-at-bytes c = at_the_end c.args.bytes.now c.before-at.result c.args.stop (omega arith) c.before-at.ensures.lacks
+pub returns-in-None : goal.returns-in-None
+returns-in-None c = search (rules, no_stop)

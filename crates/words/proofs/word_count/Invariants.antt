@@ -1,9 +1,7 @@
-use Rattle.std.proofs.Common.{length}
-use Rattle.words.proofs.Counting.{Sofar}
+use Rattle.std.proofs.Common.{◌≡◌, length, map}
+use Rattle.std.specs.List.{AllByRecursion}
+use Rattle.words.specs.Words.{Word}
 use Rattle.words.proofs.word_count.Given as goal
 
-abbrev pub invariant-loop-after : goal.invariant-loop-after
-invariant-loop-after l = Sofar l.line l.rest l.count
-
-abbrev pub decreases-loop-after : goal.decreases-loop-after
-decreases-loop-after l = length l.rest
+abbrev pub invariant-loop-word : goal.invariant-loop-word
+invariant-loop-word l = (l.count ≡ length l.yielded) × AllByRecursion Word (map (λ w. w.now) l.yielded)

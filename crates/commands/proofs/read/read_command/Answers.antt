@@ -1,48 +1,54 @@
-use Rattle.std.proofs.Common.{ℕ, List, length, sym, subst}
+use Rattle.std.proofs.Common.{◌≡◌, ℕ, ◌≤◌, List, length, Some, None, sym, subst, arith, rules}
 use Rattle.std.proofs.lemmas.Bool.{both_ways}
-use Rattle.commands.specs.Commands.{Written}
+use Rattle.std.proofs.lemmas.Option.{MatchOption-at_some, MatchOption-at_none}
+use Rattle.std.proofs.lemmas.Result.{err_from_is_err_and}
+use Rattle.words.specs.Words.{Counted}
+use Rattle.commands.specs.declared.misread.Misread.TheVariants.{Unknown}
 use Rattle.commands.specs.Fields.{Counts, name_of, sorts}
-use Rattle.commands.proofs.Whole.{Parts, parts, at_byte}
+use Rattle.commands.specs.Steps.{Answered}
+use Rattle.commands.proofs.Whole.{Parts, parts, at_byte, reading}
 use Rattle.commands.proofs.read.read_command.Goals as goal
-use Rattle.commands.proofs.read.read_command.Goals.{In-Some-verb_of}
+use Rattle.commands.proofs.read.read_command.Goals.{In_ok-count, In_ok-verb}
 
-pub returns-in_default-verb_of : goal.returns-in_default-verb_of
-returns-in_default-verb_of c =
-    let all = c.in-Some.ensures in
-    let p = parts c.args.line.now c.first.result.0.now c.first.result.1.now c.in-Some.count all.0 c.if-line-gt-LONGEST.false c.first.ensures all.1 all.2 in
-    (c.first.result.0.now, p.0, p.1.written, c.in_default-verb_of.ensures)
+counted : (c : In_ok-count) → Counted c.args.line.now (Some c.in_ok-count.count)
+counted c = let some : c.word_count.result ≡ Some c.in_ok-count.count = grind arith in subst (Counted c.args.line.now) some c.word_count.ensures
+
+pub returns-in_err-verb : goal.returns-in_err-verb
+returns-in_err-verb c =
+    let e = err_from_is_err_and c.from_residual-in_err-verb.result c.from_residual-in_err-verb.ensures.1 in
+    let unknown : Unknown ≡ c.in_err-verb.field-0.0 = grind arith in
+    let none : c.verb_of.result ≡ None = grind arith in
+    let all = counted (goal.at.returns-in_err-verb c).In_ok-count in
+    let p = parts c.args.line.now c.first.result.0.now c.first.result.1.now c.in_ok-count.count all.0 c.if-line-gt-LONGEST.false c.first.ensures all.1 all.2 in
+    rw (e.1, e.2, ← unknown) (c.first.result.0.now, p.0, p.1.written, MatchOption-at_none _ _ none c.verb_of.ensures)
 
 -- the words of a line that begins with the word of a verb
-verbed : (c : In-Some-verb_of) → (fs : List (List ℕ)) × Parts c.args.line.now (name_of c.in-Some-verb_of.verb) c.first.result.1.now c.in-Some.count fs
+verbed : (c : In_ok-verb) → (fs : List (List ℕ)) × Parts c.args.line.now (name_of c.in_ok-verb.verb) c.first.result.1.now c.in_ok-count.count fs
 verbed c =
-    let all = c.in-Some.ensures in
-    let p = parts c.args.line.now c.first.result.0.now c.first.result.1.now c.in-Some.count all.0 c.if-line-gt-LONGEST.false c.first.ensures all.1 all.2 in
-    (p.0, subst (λ w. Parts c.args.line.now w c.first.result.1.now c.in-Some.count p.0) c.in-Some-verb_of.ensures p.1)
+    let all = counted (goal.at.In_ok-verb c).In_ok-count in
+    let p = parts c.args.line.now c.first.result.0.now c.first.result.1.now c.in_ok-count.count all.0 c.if-line-gt-LONGEST.false c.first.ensures all.1 all.2 in
+    let named : c.verb_of.result ≡ Some c.in_ok-verb.verb = grind arith in
+    let is = MatchOption-at_some _ _ _ named c.verb_of.ensures in
+    (p.0, subst (λ w. Parts c.args.line.now w c.first.result.1.now c.in_ok-count.count p.0) is p.1)
 
 pub returns-then-not-takes : goal.returns-then-not-takes
 returns-then-not-takes c =
-    let p = verbed (goal.at.returns-then-not-takes c).In-Some-verb_of in
-    let v = c.in-Some-verb_of.verb in
+    let p = verbed (goal.at.returns-then-not-takes c).In_ok-verb in
+    let v = c.in_ok-verb.verb in
     (v, p.0, p.1.written, λ k. both_ways c.takes.result c.if-not-takes.true (c.takes.ensures.1 (subst (Counts v) p.1.many k)))
 
-pub overflow_sub-result : goal.overflow_sub-result
-overflow_sub-result c =
-    let p = verbed (goal.at.overflow_sub-result c).In-Some-verb_of in
-    let v = c.in-Some-verb_of.verb in
+pub map_err-requires : goal.map_err-requires
+map_err-requires c = λ left is.
+    let p = verbed (goal.at.map_err-requires c).In_ok-verb in
+    let v = c.in_ok-verb.verb in
     let takes = subst (Counts v) (sym p.1.many) (c.takes.ensures.0 c.if-not-takes.false) in
-    (at_byte c.args.line.now (name_of v) (sorts v (length p.0)) p.0 c.in-Err.left p.1.written (c.in-Err.ensures p.0 p.1.over takes)).0
+    let answered = subst (Answered v c.first.result.1.now) is c.command_of.ensures in
+    let within : left ≤ length c.args.line.now = (at_byte c.args.line.now (name_of v) (sorts v (length p.0)) p.0 left p.1.written (answered p.0 p.1.over takes)).0 in
+    search rules
 
-pub returns-in-Ok : goal.returns-in-Ok
-returns-in-Ok c =
-    let p = verbed (goal.at.returns-in-Ok c).In-Some-verb_of in
-    let v = c.in-Some-verb_of.verb in
+pub returns : goal.returns
+returns c =
+    let p = verbed (goal.at.returns c).In_ok-verb in
+    let v = c.in_ok-verb.verb in
     let takes = subst (Counts v) (sym p.1.many) (c.takes.ensures.0 c.if-not-takes.false) in
-    let told = c.in-Ok.ensures in
-    (p.0, subst (λ w. Written c.args.line.now (name_of w) p.0) (sym told.0) p.1.written, told.1 p.0 p.1.over takes)
-
-pub returns-in-Err : goal.returns-in-Err
-returns-in-Err c =
-    let p = verbed (goal.at.returns-in-Err c).In-Some-verb_of in
-    let v = c.in-Some-verb_of.verb in
-    let takes = subst (Counts v) (sym p.1.many) (c.takes.ensures.0 c.if-not-takes.false) in
-    (v, p.0, p.1.written, takes, (at_byte c.args.line.now (name_of v) (sorts v (length p.0)) p.0 c.in-Err.left p.1.written (c.in-Err.ensures p.0 p.1.over takes)).1)
+    reading c.args.line.now v p.0 c.first.result.1.now c.in_ok-count.count p.1 takes c.command_of.result c.command_of.ensures c.map_err.result (λ x is. search rules) (λ left is. search rules)

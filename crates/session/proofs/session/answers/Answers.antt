@@ -1,24 +1,29 @@
-use Rattle.std.proofs.Common.{◌<◌, length, string_bytes, arith}
-use Rattle.words.proofs.Unique.{rest_shorter}
-use Rattle.session.proofs.Answering.{next, end}
+use Rattle.std.proofs.Common.{◌+◌, string_bytes, sym, subst, rules}
+use Rattle.std.specs.Iterator.Adapters.{enumerate_source, enumerate_count}
+use Rattle.session.specs.Answers.{Answered}
+use Rattle.session.specs.Texts.{Appends}
+use Rattle.session.proofs.Answering.{GoesOn, next, end}
 use Rattle.session.proofs.session.answers.Goals as goal
 
--- the rest gets shorter
-shorter : (c : goal.In_ok-answer) → length c.in-Some.after.now < length c.loop-line.rest.now
-shorter c = rest_shorter c.in-Some.line.now c.in-Some.after.now c.loop-line.rest.now c.in-Some.ensures
-
-pub loop-line-smaller : goal.loop-line-smaller
-loop-line-smaller c = shorter c
-
-pub loop-line-preserved : goal.loop-line-preserved
-loop-line-preserved c = (
-  omega (arith, shorter c, c.loop-line.invariant.0),
-  next c.args.script.now c.loop-line.rest.now c.in-Some.line.now c.in-Some.after.now c.loop-line.number
-      c.loop-line.session.hall c.answer.new.self.hall (string_bytes c.loop-line.out) (string_bytes c.answer.new.out)
-      c.in-Some.ensures c.in_ok-answer.ensures c.loop-line.invariant.1,
-)
+pub loop-index-preserved : goal.loop-index-preserved
+loop-index-preserved c =
+    let left = enumerate_source c.loop-index.index-iterator in
+    let after = enumerate_source c.next.new.self in
+    let count = enumerate_count c.loop-index.index-iterator in
+    let old = c.loop-index.session.hall in
+    let new = c.answer.new.self.hall in
+    let out = string_bytes c.loop-index.out in
+    let written = string_bytes c.answer.new.out in
+    let step = c.in-Some.ensures.steps in
+    let said = subst (λ n. Appends (Answered (n + 1) c.in-Some.line.now old new) out written) step.1 c.in_ok-answer.ensures in (
+      search rules,
+      search rules,
+      subst (λ n. GoesOn c.args.script.now after.rest.now (n + 1) new written) (sym step.2)
+          (next c.args.script.now left.rest.now c.in-Some.line.now after.rest.now (count + 1) old new out written step.0 said c.loop-index.invariant.2),
+    )
 
 pub returns : goal.returns
 returns c =
-    end c.args.script.now c.loop-line.rest.now c.loop-line.number c.loop-line.session.hall (string_bytes c.loop-line.out)
-    c.in_default.ensures c.loop-line.invariant.1
+    let left = enumerate_source c.loop-index.index-iterator in
+    end c.args.script.now left.rest.now (enumerate_count c.loop-index.index-iterator + 1) c.loop-index.session.hall (string_bytes c.loop-index.out)
+    c.in-None.ensures.steps.0.0 c.loop-index.invariant.2
