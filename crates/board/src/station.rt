@@ -5,7 +5,8 @@ use crate::ports::Ports;
 use lengths::Length;
 use rules::{Record, Status};
 
-// A board in numbers: whether it is the root, its record with the length by its code, and its ports.
+// A board in numbers: whether it is the root, its record with the length by its code, and its ports. The record of a root is
+// not read; it stands beside the flag and in no `Option`, since the states of a board end hold plain numbers only.
 #[derive(Clone, Copy)]
 pub(crate) struct Station {
     pub(crate) root: bool,

@@ -6,7 +6,8 @@ use crate::head::{Head, RECORD, read_head};
 use crate::sent::read_record;
 use lengths::Length;
 
-// What a frame tells: a record in numbers, the length by its code, or the whole frame where its kind is none of these.
+// What a frame tells: a record in numbers, the length by its code, or the whole frame where its kind is none of these. The numbers
+// are as the bytes have them, so that an item names no kind of length.
 #[derive(Clone, Copy, Debug, PartialEq, Eq)]
 pub enum Item<'a> {
     Record {

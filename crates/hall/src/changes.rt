@@ -43,7 +43,8 @@ impl<L: Length> Hall<L> {
         })
     }
 
-    // Adds a cable between two ports.
+    // Adds a cable between two ports. Board and port are bare numbers here, as a caller has them: a pair would be taken apart again
+    // at each look into a table.
     pub fn wire(&mut self, a: u32, p: u32, b: u32, q: u32, weight: u32) -> Result<(), Fault>
         ensures { Wires L.Length.meaning self.old a p b q weight result self.new }
     {

@@ -25,6 +25,7 @@ pub trait Length: Copy + Ord {
     fn extend(self, weight: u32) -> Option<Self>
         ensures { result ≡ meaning.extended self weight };
 
+    // `code` and `read` are calls of the kind and no `Into` and `TryFrom`, whose meanings would be two more laws to state.
     fn code(self) -> u64
         ensures { result ≡ meaning.coded self };
 

@@ -24,7 +24,8 @@ impl<L: Length> Record<L> {
         }
     }
 
-    // The record of three numbers, the last its length's code; nothing where one of them stands for nothing.
+    // The record of three numbers, the last its length's code; nothing where one of them stands for nothing. Callers have the three
+    // from a line or a call, and a struct of them would be made only to be taken apart here.
     pub fn read(status: u32, par: u32, code: u64) -> Option<Record<L>>
         ensures { ReadsRecord L.Length.meaning status par code result }
     {

@@ -1,4 +1,5 @@
-// Sets of boards as the bits of a u64: bit b stands for board b.
+// Sets of boards as the bits of a u64: bit b stands for board b. Functions and no type of their own, since halls, pickers and
+// boards hand sets on as bare numbers.
 #![tactic(auto)]
 
 mod members;
