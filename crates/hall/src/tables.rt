@@ -23,7 +23,7 @@ impl<L: Copy> Clone for Ledger<L> {
 }
 
 // How often a board has moved by each rule, each count stopping at 2^64 - 1.
-#[derive(Clone, Copy, Default, PartialEq, Eq)]
+#[derive(Clone, Copy, Debug, Default, PartialEq, Eq)]
 pub struct Tally {
     // RC: it took a lesser offer
     pub corrected: u64,

@@ -3,7 +3,7 @@ ghost use Rattle.rules.specs.Status.{number_of, NumberOf};
 
 // What a board believes of its way: I has none, C has one, EB has lost it and tells its children, EF has heard them all confirm.
 // A frame and a script write it as its number.
-#[derive(Clone, Copy, PartialEq, Eq)]
+#[derive(Clone, Copy, Debug, PartialEq, Eq)]
 pub enum Status {
     I = 0,
     C = 1,

@@ -2,7 +2,7 @@ ghost use Rattle.std.specs.Prelude.{◌≡◌};
 ghost use Rattle.rules.specs.Rules.{rule_of};
 
 // The rule by which an enabled board moves.
-#[derive(Clone, Copy, PartialEq, Eq)]
+#[derive(Clone, Copy, Debug, PartialEq, Eq)]
 pub enum Verdict {
     RC,
     REB,
@@ -12,7 +12,7 @@ pub enum Verdict {
 }
 
 // How a board would move: its verdict, with the port whose offer it takes where the rule takes one.
-#[derive(Clone, Copy, PartialEq, Eq)]
+#[derive(Clone, Copy, Debug, PartialEq, Eq)]
 pub enum Plan {
     RC { port: u8 },
     REB,

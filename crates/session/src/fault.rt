@@ -6,7 +6,7 @@ use commands::Misread;
 use hall::Fault;
 
 // Why a line of a script is refused.
-#[derive(Clone, Copy)]
+#[derive(Clone, Copy, Debug, PartialEq, Eq)]
 pub enum ScriptFault {
     // the line is no command
     Misread(Misread),
