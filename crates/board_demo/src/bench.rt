@@ -23,10 +23,6 @@ pub(crate) fn compare(rt: &HostRuntime, hall: &Hall<Metres>, seat: &Seat) -> io:
         return println!(rt; "the bench has no board {number}");
     };
     let (own, record) = (seat.board.own(), look.record);
-    let verdict = if own == record {
-        "the same"
-    } else {
-        "another"
-    };
+    let verdict = if own == record { "the same" } else { "another" };
     println!(rt; "board {number}: {own}; on the bench: {record}, {verdict}")
 }

@@ -1,18 +1,14 @@
 -- A board has at most one verdict, and each rule leaves it one record.
-use Rattle.std.proofs.Common.{◌≡◌, ℕ, false, Option, sym, refl, ◌∙◌, ⊎_elim, arith}
+use Rattle.std.proofs.Common.{◌≡◌, ℕ, Option, sym, ◌∙◌, arith}
 use mathlib.Core.Logic.{by_cases}
 use native.Mathlib.Decide.{dec_lt}
 use borrow.Author.Tests.{both_ways}
 use Rattle.lengths.specs.Kind.{Kind, Laws}
 use Rattle.rules.specs.Rules.{LeastOffer, Enabled, Takes, Effect}
-use Rattle.rules.specs.Status.{same}
 use Rattle.rules.specs.declared.neighbourhood.Seen.{Seen}
 use Rattle.rules.specs.declared.record.Record.{Record}
-use Rattle.rules.specs.declared.status.Status.{Status}
-use Rattle.rules.specs.declared.status.Status.TheVariants.{I, C, EB, EF}
 use Rattle.rules.specs.declared.verdict.Verdict.{Verdict}
 use Rattle.rules.specs.declared.verdict.Verdict.TheVariants.{RC, REB, REF, RI, RR}
-use Rattle.network.proofs.Views.{clash}
 
 module _ {V : Type 0} {k : Kind V} (laws : Laws k) (own : Record V) (near : ℕ → Option (Seen V)) where
   pub one_verdict : (u v : Verdict) → Enabled k own near u → Enabled k own near v → u ≡ v

@@ -1,4 +1,4 @@
-use Rattle.std.proofs.Common.{◌≡◌, ℕ, replicate, slice_index_or, sym, subst, rules}
+use Rattle.std.proofs.Common.{◌≡◌, ℕ, replicate, slice_index_or, subst, rules}
 use Rattle.hall.specs.Hall.{nothing}
 use Rattle.hall.specs.declared.tables.Tally.{Tally}
 use Rattle.hall.proofs.CableLaw.{all_same}

@@ -5,8 +5,6 @@ use Rattle.network.specs.Cables.{around}
 use Rattle.sets.specs.Sets.{has, LeastFrom}
 use Rattle.rules.specs.declared.verdict.Verdict.{Verdict}
 use Rattle.hall.specs.Hall.{far_in, records_in, PlanIn, Noted}
-use Rattle.hall.specs.Tables.{far_of}
-use Rattle.hall.specs.declared.cabling.Cabling.{Cabling}
 use Rattle.hall.proofs.Midway.{Midway, skipped, idles, noted, all_moved}
 use Rattle.hall.proofs.Verdicts.{follows_plan}
 use Rattle.hall.proofs.tables.Hall.advance.Goals as goal
