@@ -8,14 +8,14 @@ use Rattle.board.proofs.tell.write_frames.Goals.{then-wired+in-Some, else-wired,
 pub overflow_add-size : goal.overflow_add-size
 overflow_add-size g c =
     let wired : wired_at c.args.ports c.loop-port.port ≡ true = search rules in
-    let room = wired_room c.args.ports c.loop-port.port c.loop-port-test.true wired in
+    let room = wired_room c.args.ports c.loop-port.port (omega arith) wired in
     let few = wired_few c.args.ports 8 in
     omega arith
 
 pub slice_bounds-copy_from_slice-end : goal.slice_bounds-copy_from_slice-end
 slice_bounds-copy_from_slice-end g c =
     let wired : wired_at c.args.ports c.loop-port.port ≡ true = search rules in
-    let room = wired_room c.args.ports c.loop-port.port c.loop-port-test.true wired in
+    let room = wired_room c.args.ports c.loop-port.port (omega arith) wired in
     omega arith
 
 pub loop-port-preserved : goal.loop-port-preserved

@@ -1,4 +1,4 @@
-use Rattle.std.proofs.Common.{◌≡◌, ℕ, ◌<◌, length, get_or, Some, None, sym, ap, ◌∙◌, arith, rules}
+use Rattle.std.proofs.Common.{◌≡◌, ℕ, ◌<◌, length, get_or, Some, None, arith, rules}
 use Rattle.std.proofs.lemmas.Result.{err_from_is_err_and}
 use Rattle.rules.specs.Status.{number_of}
 use Rattle.frames.specs.Record.{Fields, code_in}
@@ -9,7 +9,7 @@ use Rattle.frames.proofs.sent.read_record.Goals as goal
 pub returns-in_err-length : goal.returns-in_err-length
 returns-in_err-length g c =
     let p = err_from_is_err_and c.from_residual-in_err-length.result c.from_residual-in_err-length.ensures.1 in
-    let none : g.L.Length.meaning.decoded (code_in c.args.frame.now) ≡ None = ap g.L.Length.meaning.decoded (sym c.from_le_bytes-code.ensures) ∙ sym c.read.ensures ∙ c.in_err-length.ensures.ok_part in
+    let none : g.L.Length.meaning.decoded (code_in c.args.frame.now) ≡ None = search rules in
     let fields : Fields c.args.frame.now = search rules in
     let code : c.in_err-length.field-0.0 ≡ Code = grind arith in
     rw (p.1, p.2, code) (refuses g.L.Length.lawful _ Code (fields, none))
@@ -21,5 +21,5 @@ returns g c =
     let small : (i : ℕ) → i < 16 → get_or frame i 0 < 256 = search rules in
     let fields : Fields frame = search rules in
     let status : number_of c.in_ok-status.status ≡ get_or frame 4 0 = search rules in
-    let code : g.L.Length.meaning.decoded (code_in frame) ≡ Some c.in_ok-length.length = ap g.L.Length.meaning.decoded (sym c.from_le_bytes-code.ensures) ∙ sym c.read.ensures ∙ c.in_ok-length.ensures.ok_part in
+    let code : g.L.Length.meaning.decoded (code_in frame) ≡ Some c.in_ok-length.length = search rules in
     accepts g.L.Length.lawful frame _ _ fields.port (body_read g.L.Length.lawful frame long small fields _ status _ code)
