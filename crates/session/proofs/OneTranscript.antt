@@ -14,7 +14,6 @@ use Rattle.commands.specs.declared.command.Command.TheVariants.{New, Wire, Cut, 
 use Rattle.commands.specs.declared.command.Kind.{Kind as KindName}
 use Rattle.commands.specs.declared.command.Kind.TheVariants as name
 use Rattle.commands.specs.declared.command.PickerName.{PickerName}
-use Rattle.commands.specs.declared.command.PickerName.TheVariants as picker
 use Rattle.commands.specs.declared.misread.Misread.{Misread}
 use Rattle.hall.specs.declared.fault.Fault.{Fault}
 use Rattle.hall.specs.declared.tables.Hall.{Hall}
@@ -51,8 +50,7 @@ module _ {V : Type 0} {k : Kind V} (laws : Laws k) where
   one_named g h g' h' beyond set l r s p q = grind (arith, one_turns laws, kept laws)
 
   one_settled : (g h g' h' : Hall V) → Alike k g h → (name : PickerName) → SettlesNamed k name g g' → SettlesNamed k name h h' → Alike k g' h'
-  one_settled g h g' h' l picker.All p q = one_settles laws g h l p.1 q.1
-  one_settled g h g' h' l picker.Ring p q = one_settles laws g h l p.1 q.1
+  one_settled g h g' h' l name p q = grind (arith, one_settles laws)
 
   one_obeys : (g h g' h' : Hall V) → Alike k g h → (command : Command) (r s : Result Reply ScriptFault) → Obeys k g command r g' → Obeys k h command s h' → (r ≡ s) × Alike k g' h'
   one_obeys g h g' h' l (New n kind) r s p q = (p.0 ∙ sym q.0, kept laws p.1 q.1 l)
