@@ -1,8 +1,8 @@
 -- Commands and lines, as the session goes through them.
-use Rattle.std.proofs.Common.{◌≡◌, ℕ, ◌+◌, List, [], ◌∷◌, ◌++◌, Option, Result, ◌⊎◌, inl, inr, ⊎_elim, sym, refl, ap, ◌∙◌, subst, append_assoc, append-nil}
+use Rattle.std.proofs.Common.{◌≡◌, ℕ, ◌+◌, List, [], ◌∷◌, ◌++◌, Option, Result, sym, ap, ◌∙◌, subst, append_assoc, append-nil, arith}
 use Rattle.words.specs.Lines.{FirstLine, Lines}
 use Rattle.commands.specs.declared.command.Command.{Command}
-use Rattle.commands.specs.declared.command.Command.TheVariants.{New, Wire, Cut, Plant, Turn, Settle, Tally, Show}
+use Rattle.commands.specs.declared.command.Command.TheVariants.{New}
 use Rattle.commands.specs.declared.command.Kind.{Kind}
 use Rattle.session.specs.Answers.{Commands, Does, Answered}
 use Rattle.session.specs.Texts.{Appends}
@@ -11,20 +11,9 @@ use Rattle.session.specs.declared.fault.ScriptFault.{ScriptFault}
 use Rattle.session.specs.declared.halls.AnyHall.{AnyHall}
 use Rattle.session.specs.declared.obey.Reply.{Reply}
 
--- a command makes a hall, or wants one
-pub makes_or_wants : (command : Command) → ((n : ℕ) × (kind : Kind) × (command ≡ New n kind)) ⊎ (Does command ≡ Commands command)
-makes_or_wants (New n kind) = inl (n, kind, refl)
-makes_or_wants (Wire a p b q w) = inr refl
-makes_or_wants (Cut b p) = inr refl
-makes_or_wants (Plant b status par code) = inr refl
-makes_or_wants (Turn boards) = inr refl
-makes_or_wants (Settle name) = inr refl
-makes_or_wants (Tally b) = inr refl
-makes_or_wants Show = inr refl
-
+-- a command other than `new` wants a hall
 pub does_other : (command : Command) (before : Option AnyHall) (r : Result Reply ScriptFault) (after : Option AnyHall) → ((n : ℕ) (kind : Kind) → command ≡ New n kind → ⊥) → Commands command before r after → Does command before r after
-does_other command before r after other h =
-    ⊎_elim (λ m. absurd (other m.0 m.1 m.2)) (λ same. subst (λ D. D before r after) (sym same) h) (makes_or_wants command)
+does_other command before r after other h = grind arith
 
 -- whatever answers the rest, from this number and hall on, answers the whole script after what is written
 abbrev pub GoesOn : List ℕ → List ℕ → ℕ → Option AnyHall → List ℕ → Type 0

@@ -1,8 +1,7 @@
 -- Halls with the same tables: what each call answers, and the tables that it leaves, are the same.
-use Rattle.std.proofs.Common.{◌≡◌, ℕ, ◌+◌, ◌<◌, Bool, true, false, eqb, List, ◌++◌, Some, None, Ok, Err, Option, Result, sym, refl, ap, ◌∙◌, subst, arith, eq-eqb}
+use Rattle.std.proofs.Common.{◌≡◌, ℕ, ◌+◌, ◌<◌, Bool, true, eqb, List, ◌++◌, Some, None, Ok, Err, Option, Result, sym, refl, ap, ◌∙◌, subst, arith}
 use mathlib.Core.Logic.{by_cases}
 use native.Mathlib.Decide.{ℕ_discrete}
-use borrow.Author.Tests.{both_ways}
 use Rattle.lengths.specs.Kind.{Kind, Laws}
 use Rattle.rules.specs.Rules.{Enabled, Effect}
 use Rattle.rules.specs.declared.record.Record.{Record}
@@ -12,7 +11,7 @@ use Rattle.network.specs.Cables.{around, shown, Adds, Removes}
 use Rattle.network.specs.Turns.{Part}
 use Rattle.network.specs.declared.End.{End}
 use Rattle.network.proofs.Counts.{one_count}
-use Rattle.network.proofs.Views.{nothing, only, same_true}
+use Rattle.network.proofs.Views.{nothing, only}
 use Rattle.sets.specs.Sets.{has}
 use Rattle.sets.proofs.Bits.{has_zero, same_members, same_test}
 use Rattle.hall.specs.Faults.{refusal}
@@ -72,8 +71,7 @@ module _ {V : Type 0} {k : Kind V} (laws : Laws k) where
       ap Some (one_verdict laws (records_in k h b) (around (far_in h) (records_in k h) b) u v (verdict_same g h a b u p).2 q.2)
 
   one_mover : (g h : Hall V) → Alike k g h → (chosen : Bool) (b : ℕ) (r s : Option Verdict) → MovesBy k g chosen b r → MovesBy k h chosen b s → r ≡ s
-  one_mover g h a true b r s p q = one_is_verdict g h a b r s p q
-  one_mover g h a false b r s p q = p ∙ sym q
+  one_mover g h a chosen b r s p q = grind (arith, one_is_verdict)
 
   one_part : (g h : Hall V) → Alike k g h → (b : ℕ) → b < boards_in g → (r : Option Verdict) (x y : Record V) → Part k (boards_in g) (far_in g) (records_in k g) b r x → Part k (boards_in h) (far_in h) (records_in k h) b r y → x ≡ y
   one_part g h a b lt None x y p q = p ∙ a.records b lt ∙ sym q
@@ -120,11 +118,7 @@ module _ {V : Type 0} {k : Kind V} (laws : Laws k) where
       (λ m. by_cases (spot c r o.board o.port) (λ s. at_spot f' g' s (x.other_end ∙ sym y.other_end)) (λ n. x.rest c r m n ∙ e c r ∙ sym (y.rest c r m n)))
 
   one_numbered : (s p c : ℕ) (x y : Record V) → Numbered k s p c x → Numbered k s p c y → x ≡ y
-  one_numbered s p c x y u v =
-      let status = same_true x.status y.status (eq-eqb _ _ (u.status ∙ sym v.status)) in
-      let par = u.par ∙ sym v.par in
-      let length = only u.length v.length in
-      λ i. record { status = status i; par = par i; length = length i }
+  one_numbered s p c x y u v = grind arith
 
   -- A change is made where its checks pass, and else refused: R tells the answer in one hall, with the checks' refusal x, and S in the other.
   one_change : {g h g' h' : Hall V} {x y : Option Fault} (R S : Result (Unit {0}) Fault → Type 0) → x ≡ y → Alike k g h → ((f : Fault) → R (Err f) → (x ≡ Some f) × (g' ≡ g)) → ((f : Fault) → S (Err f) → (y ≡ Some f) × (h' ≡ h)) → ((o : Unit {0}) → R (Ok o) → x ≡ None) → ((o : Unit {0}) → S (Ok o) → y ≡ None) → ((o o' : Unit {0}) → R (Ok o) → S (Ok o') → Alike k g' h') → (r s : Result (Unit {0}) Fault) → R r → S s → (r ≡ s) × Alike k g' h'
@@ -168,19 +162,8 @@ module _ {V : Type 0} {k : Kind V} (laws : Laws k) where
       let v = all idle.board idle.chosen in
       idle.idle v.0 (verdict_same g h l idle.board v.0 v.1)
 
-  nobody_in : (s b : ℕ) → s ≡ 0 → has s b ≡ true → ⊥
-  nobody_in s b e h = both_ways (has s b) (ap (λ x. has x b) e ∙ has_zero b) h
-
   one_fault : (g h : Hall V) (s : ℕ) → Alike k g h → (d e : Fault) → TurnFault k g s d → TurnFault k h s e → d ≡ e
-  one_fault g h s l d e (beyond b in-s gone) (beyond c in-t off) = refl
-  one_fault g h s l d e (beyond b in-s gone) (nobody z) = absurd (nobody_in s b z in-s)
-  one_fault g h s l d e (beyond b in-s gone) (disabled there idle) = absurd (omega (arith, there b in-s, l.boards))
-  one_fault g h s l d e (nobody z) (beyond c in-t off) = absurd (nobody_in s c z in-t)
-  one_fault g h s l d e (nobody z) (nobody y) = refl
-  one_fault g h s l d e (nobody z) (disabled there idle) = absurd (nobody_in s idle.board z idle.chosen)
-  one_fault g h s l d e (disabled there idle) (beyond c in-t off) = absurd (omega (arith, there c in-t, l.boards))
-  one_fault g h s l d e (disabled there idle) (nobody z) = absurd (nobody_in s idle.board z idle.chosen)
-  one_fault g h s l d e (disabled there idle) (disabled here idler) = refl
+  one_fault g h s l d e u v = grind (arith, has_zero)
 
   pub one_turns : (g h g' h' : Hall V) (set : ℕ) → Alike k g h → (r s : Result ℕ Fault) → Turns k g set r g' → Turns k h set s h' → (r ≡ s) × Alike k g' h'
   one_turns g h g' h' set l (Ok m) (Ok n) u v = (ap Ok (one_count u.3 v.3), one_turned g h g' h' set l u.2 v.2)

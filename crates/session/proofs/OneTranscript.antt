@@ -1,5 +1,5 @@
 -- A script has one transcript.
-use Rattle.std.proofs.Common.{◌≡◌, ℕ, ◌+◌, Bool, true, false, List, ◌∷◌, ◌++◌, Some, None, Ok, Err, Option, Result, sym, refl, ap, ◌∙◌, subst, ⊎_elim, arith}
+use Rattle.std.proofs.Common.{◌≡◌, ℕ, ◌+◌, Bool, List, ◌∷◌, ◌++◌, Some, None, Ok, Err, Option, Result, sym, refl, ap, ◌∙◌, subst, ⊎_elim, arith}
 use Rattle.lengths.specs.Grade.{grade}
 use Rattle.lengths.specs.GradeLaws.{grade_laws}
 use Rattle.lengths.specs.Kind.{Kind, Laws}
@@ -14,7 +14,6 @@ use Rattle.commands.specs.declared.command.Command.TheVariants.{New, Wire, Cut, 
 use Rattle.commands.specs.declared.command.Kind.{Kind as KindName}
 use Rattle.commands.specs.declared.command.Kind.TheVariants as name
 use Rattle.commands.specs.declared.command.PickerName.{PickerName}
-use Rattle.commands.specs.declared.command.PickerName.TheVariants as picker
 use Rattle.commands.specs.declared.misread.Misread.{Misread}
 use Rattle.hall.specs.declared.fault.Fault.{Fault}
 use Rattle.hall.specs.declared.tables.Hall.{Hall}
@@ -27,8 +26,7 @@ use Rattle.session.specs.declared.fault.ScriptFault.TheVariants.{Hall as Refusin
 use Rattle.session.specs.declared.halls.AnyHall.{AnyHall}
 use Rattle.session.specs.declared.halls.AnyHall.TheVariants.{Metres, Grade}
 use Rattle.session.specs.declared.obey.Reply.{Reply}
-use Rattle.session.specs.declared.obey.Reply.TheVariants.{Done, Moved, Counts, Boards}
-use Rattle.session.proofs.Answering.{makes_or_wants}
+use Rattle.session.specs.declared.obey.Reply.TheVariants.{Done, Moved, Counts}
 use Rattle.session.proofs.OneHall.{Alike, one_wires, one_cuts, one_planted, one_turns, one_settles, one_tally, one_shown, one_made, kept}
 
 -- the answer to a line from the answer of the hall
@@ -49,12 +47,10 @@ one_becomes reply {P = P} {Q = Q} one r s p q =
 
 module _ {V : Type 0} {k : Kind V} (laws : Laws k) where
   one_named : (g h g' h' : Hall V) (beyond : Bool) (set : ℕ) → Alike k g h → (r s : Result ℕ Fault) → TurnsNamed k g beyond set r g' → TurnsNamed k h beyond set s h' → (r ≡ s) × Alike k g' h'
-  one_named g h g' h' true set l r s p q = (p.0 ∙ sym q.0, kept laws p.1 q.1 l)
-  one_named g h g' h' false set l r s p q = one_turns laws g h g' h' set l r s p q
+  one_named g h g' h' beyond set l r s p q = grind (arith, one_turns laws, kept laws)
 
   one_settled : (g h g' h' : Hall V) → Alike k g h → (name : PickerName) → SettlesNamed k name g g' → SettlesNamed k name h h' → Alike k g' h'
-  one_settled g h g' h' l picker.All p q = one_settles laws g h l p.1 q.1
-  one_settled g h g' h' l picker.Ring p q = one_settles laws g h l p.1 q.1
+  one_settled g h g' h' l name p q = grind (arith, one_settles laws)
 
   one_obeys : (g h g' h' : Hall V) → Alike k g h → (command : Command) (r s : Result Reply ScriptFault) → Obeys k g command r g' → Obeys k h command s h' → (r ≡ s) × Alike k g' h'
   one_obeys g h g' h' l (New n kind) r s p q = (p.0 ∙ sym q.0, kept laws p.1 q.1 l)
@@ -98,12 +94,10 @@ one_made_any name.Grade n g h p q = along p.1 q.1 (grade_alike (one_made grade_l
 
 -- a hall is made or refused, and not both
 made_or_not : (kind : KindName) (n : ℕ) (g : AnyHall) (f : Fault) → MakesAny kind n (Ok g) → MakesAny kind n (Err f) → ⊥
-made_or_not name.Metres n g f p q = q.1 (p.2.0, p.2.1)
-made_or_not name.Grade n g f p q = q.1 (p.2.0, p.2.1)
+made_or_not kind n g f p q = grind arith
 
 one_refused : (kind : KindName) (n : ℕ) (d e : Fault) → MakesAny kind n (Err d) → MakesAny kind n (Err e) → d ≡ e
-one_refused name.Metres n d e p q = p.0 ∙ sym q.0
-one_refused name.Grade n d e p q = p.0 ∙ sym q.0
+one_refused kind n d e p q = grind arith
 
 module _ (g h g' h' : Option AnyHall) (l : AlikeHere g h) where
   one_opens : (kind : KindName) (n : ℕ) (r s : Result Reply ScriptFault) → Opens kind n g r g' → Opens kind n h s h' → (r ≡ s) × AlikeHere g' h'
@@ -118,11 +112,14 @@ one_commands g h g' h' (both {g = x} {h = y} l) command r s p q =
     let o = one_obeys_any x y p.0 q.0 l command r s p.2 q.2 in (o.0, along_here p.1 q.1 (both o.1))
 
 one_does : (g h g' h' : Option AnyHall) → AlikeHere g h → (command : Command) (r s : Result Reply ScriptFault) → Does command g r g' → Does command h s h' → (r ≡ s) × AlikeHere g' h'
-one_does g h g' h' l command r s =
-    ⊎_elim
-    (λ m. subst (λ c. Does c g r g' → Does c h s h' → (r ≡ s) × AlikeHere g' h') (sym m.2) (one_opens g h g' h' l m.1 m.0 r s))
-    (λ same. subst (λ D. D g r g' → D h s h' → (r ≡ s) × AlikeHere g' h') (sym same) (one_commands g h g' h' l command r s))
-    (makes_or_wants command)
+one_does g h g' h' l (New n kind) = one_opens g h g' h' l kind n
+one_does g h g' h' l (Wire a p b q w) = one_commands g h g' h' l (Wire a p b q w)
+one_does g h g' h' l (Cut b p) = one_commands g h g' h' l (Cut b p)
+one_does g h g' h' l (Plant b status par code) = one_commands g h g' h' l (Plant b status par code)
+one_does g h g' h' l (Turn boards) = one_commands g h g' h' l (Turn boards)
+one_does g h g' h' l (Settle name) = one_commands g h g' h' l (Settle name)
+one_does g h g' h' l (Tally b) = one_commands g h g' h' l (Tally b)
+one_does g h g' h' l Show = one_commands g h g' h' l Show
 
 one_follows : (g h g' h' : Option AnyHall) → AlikeHere g h → (reading : Result Command Misread) (r s : Result Reply ScriptFault) → Follows reading g r g' → Follows reading h s h' → (r ≡ s) × AlikeHere g' h'
 one_follows g h g' h' l (Ok command) r s p q = one_does g h g' h' l command r s p q
@@ -133,15 +130,10 @@ one_reply g h g' h' line l r s p q =
     one_follows g h g' h' l q.0 r s (subst (λ x. Follows x g r g') (same_reading line p.0 q.0 p.1 q.1) p.2) q.2
 
 one_shown_here : (g h : Option AnyHall) → AlikeHere g h → (t u : List ℕ) → Shown g t → Shown h u → t ≡ u
-one_shown_here g h neither t u p q = p ∙ sym q
-one_shown_here g h (both {g = x} {h = y} l) t u p q = one_shown_any x y l t u p q
+one_shown_here g h l t u p q = grind (arith, one_shown_any)
 
 one_printed : (g h : Option AnyHall) → AlikeHere g h → (number : ℕ) (r : Result Reply ScriptFault) (t u : List ℕ) → Printed g number r t → Printed h number r u → t ≡ u
-one_printed g h l number (Ok Done) t u p q = p ∙ sym q
-one_printed g h l number (Ok (Moved m)) t u p q = p ∙ sym q
-one_printed g h l number (Ok (Counts c)) t u p q = p ∙ sym q
-one_printed g h l number (Ok Boards) t u p q = one_shown_here g h l t u p q
-one_printed g h l number (Err f) t u p q = p ∙ sym q
+one_printed g h l number r t u p q = grind (arith, one_shown_here)
 
 one_answer : (g h g' h' : Option AnyHall) (number : ℕ) (line : List ℕ) → AlikeHere g h → (t u : List ℕ) → Answered number line g g' t → Answered number line h h' u → (t ≡ u) × AlikeHere g' h'
 one_answer g h g' h' number line l t u p q =
