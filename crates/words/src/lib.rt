@@ -54,6 +54,7 @@ fn is_word(bytes: &[u8]) -> bool
 pub fn word_count(line: &[u8]) -> Option<usize>
     ensures { Counted line.now result }
 {
+    // No `try_fold`: that its closure's sum fits stays unproved.
     let mut count = 0;
     for word in line.split(|b| *b == b' ') {
         if !is_word(word) {
@@ -72,6 +73,7 @@ pub fn number(word: &[u8]) -> Option<u32>
     if word.is_empty() || word.len() > DIGITS {
         return None;
     }
+    // No `parse`, which takes a sign too, and no `try_fold`: that its closure's product fits stays unproved.
     let mut value: u64 = 0;
     for b in word {
         let digit = char::from(*b).to_digit(10)?;
