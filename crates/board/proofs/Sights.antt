@@ -10,7 +10,8 @@ use Rattle.network.specs.declared.End.{End}
 use Rattle.hall.specs.Hall.{MoveOn}
 use Rattle.hall.proofs.Verdicts.{move_of}
 use Rattle.std.specs.Result.{result_ok}
-use Rattle.frames.specs.Record.{status_of, body_of, Fields, code_in, Reads}
+use Rattle.rules.specs.Status.{status_of}
+use Rattle.frames.specs.Record.{body_of, Fields, code_in, Reads}
 use Rattle.frames.specs.declared.fault.FrameFault.{FrameFault}
 use Rattle.frames.specs.declared.sent.Sent.{Sent}
 use Rattle.frames.proofs.Bytes.{at_drop}

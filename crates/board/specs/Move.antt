@@ -6,7 +6,8 @@ use Rattle.rules.specs.declared.neighbourhood.Seen.{Seen}
 use Rattle.rules.specs.declared.record.Record.{Record}
 use Rattle.network.specs.declared.End.{End}
 use Rattle.hall.specs.Hall.{MoveOn}
-use Rattle.frames.specs.Record.{status_of, frame_of, code_in}
+use Rattle.rules.specs.Status.{status_of}
+use Rattle.frames.specs.Record.{frame_of, code_in}
 use Rattle.board.specs.Hear.{slot_at}
 use Rattle.board.specs.Station.{weight_at, own_of}
 use Rattle.board.specs.declared.ports.Ports.{Ports}

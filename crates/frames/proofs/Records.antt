@@ -5,11 +5,11 @@ use native.Mathlib.Decide.{dec_lt}
 use Rattle.std.proofs.lemmas.List.{drop-drop, get_or-drop, get_or_past, length-drop}
 use Rattle.std.proofs.lemmas.Nat.{le_bytes_8, from_le_bytes-to_le_bytes_8}
 use Rattle.lengths.specs.Kind.{Kind, Laws}
-use Rattle.rules.specs.Status.{number_of}
+use Rattle.rules.specs.Status.{number_of, status_of}
 use Rattle.rules.specs.declared.record.Record.{Record}
 use Rattle.rules.specs.declared.status.Status.{Status}
 use Rattle.rules.specs.declared.status.Status.TheVariants.{I, C, EB, EF}
-use Rattle.frames.specs.Record.{status_of, eight_bytes, body_of, frame_of, Fields, code_in, Unreadable, Accepted, Refused, Reads, Written}
+use Rattle.frames.specs.Record.{eight_bytes, body_of, frame_of, Fields, code_in, Unreadable, Accepted, Refused, Reads, Written}
 use Rattle.frames.specs.declared.fault.FrameFault.{FrameFault}
 use Rattle.frames.specs.declared.fault.FrameFault.TheVariants.{Short, Extent, Size, Field, Code}
 use Rattle.frames.specs.declared.sent.Sent.{Sent}

@@ -3,9 +3,9 @@ use Rattle.std.proofs.Common.{◌≡◌, ℕ, zero, suc, ◌+◌, ◌<◌, ◌�
 use native.Mathlib.Decide.{dec_le, ℕ_discrete}
 use Rattle.std.proofs.lemmas.List.{length-take-le, length-drop, get_or-drop, nil_from_length}
 use Rattle.lengths.specs.Kind.{Kind, Laws}
-use Rattle.rules.specs.Status.{number_of}
+use Rattle.rules.specs.Status.{number_of, status_of}
 use Rattle.rules.specs.declared.record.Record.{Record}
-use Rattle.frames.specs.Record.{status_of, Fields, code_in}
+use Rattle.frames.specs.Record.{Fields, code_in}
 use Rattle.frames.specs.Head.{head_length, head_kind, Whole}
 use Rattle.frames.specs.Stream.{Told, recorded, unknown, End, ended, stopped, RecordHead, Damage, First, Stands, Small, Meant}
 use Rattle.frames.specs.declared.fault.FrameFault.{FrameFault}

@@ -1,20 +1,11 @@
 -- The frame of a record: which bytes it is, and what a record frame's bytes tell.
-use Rattle.std.specs.Prelude.{◌≡◌, ℕ, zero, suc, ◌+◌, ◌*◌, ◌/◌, ◌%◌, ◌<◌, ◌≤◌, List, [], ◌∷◌, drop, Some, None, Ok, Err, Option, Result, ◌≢◌, slice_index, slice_index_or}
+use Rattle.std.specs.Prelude.{◌≡◌, ℕ, ◌+◌, ◌*◌, ◌/◌, ◌%◌, ◌<◌, ◌≤◌, List, [], ◌∷◌, drop, Some, None, Ok, Err, Option, Result, ◌≢◌, slice_index, slice_index_or}
 use Rattle.lengths.specs.Kind.{Kind}
 use Rattle.rules.specs.Status.{number_of}
 use Rattle.rules.specs.declared.record.Record.{Record}
-use Rattle.rules.specs.declared.status.Status.{Status}
-use Rattle.rules.specs.declared.status.Status.TheVariants.{I, C, EB, EF}
 use Rattle.frames.specs.declared.fault.FrameFault.{FrameFault}
 use Rattle.frames.specs.declared.fault.FrameFault.TheVariants.{Short, Extent, Size, Field, Code}
 use Rattle.frames.specs.declared.sent.Sent.{Sent}
-
--- the status that a number up to 3 stands for
-abbrev pub status_of : ℕ → Status
-status_of zero = I
-status_of (suc zero) = C
-status_of (suc (suc zero)) = EB
-status_of (suc (suc (suc n))) = EF
 
 -- the eight bytes of a number, the lowest first
 abbrev pub eight_bytes : ℕ → List ℕ

@@ -3,7 +3,7 @@ use Rattle.std.proofs.Common.{◌≡◌, ℕ, zero, suc, Bool, true, false, cond
 use borrow.Author.Tests.{eqb-false, not-true, not-false, both_ways}
 use Rattle.lengths.specs.Kind.{Kind}
 use Rattle.rules.specs.Rules.{abnormal, adrift, misfit, short, offered, shows, Offers, ChildrenEF}
-use Rattle.rules.specs.Status.{same, number_of}
+use Rattle.rules.specs.Status.{same, number_of, status_of}
 use Rattle.rules.specs.declared.neighbourhood.Seen.{Seen}
 use Rattle.rules.specs.declared.record.Record.{Record}
 use Rattle.rules.specs.declared.status.Status.{Status}
@@ -44,13 +44,7 @@ nothing e f = let z : ◌≡◌ {A = ℕ} 0 1 = cc in omega arith
 pub only : {A : Type 0} {a b : A} {o : Option A} → o ≡ Some a → o ≡ Some b → a ≡ b
 only e f = cc
 
--- statuses
-abbrev status_of : ℕ → Status
-status_of zero = I
-status_of (suc zero) = C
-status_of (suc (suc zero)) = EB
-status_of (suc (suc (suc m))) = EF
-
+-- a status is that of its number
 read_status : (s : Status) → status_of (number_of s) ≡ s
 read_status I = refl
 read_status C = refl

@@ -1,5 +1,5 @@
 -- Statuses by their numbers.
-use Rattle.std.specs.Prelude.{◌≡◌, ℕ, ◌≤◌, Bool, ◌==◌, Result, MatchResult}
+use Rattle.std.specs.Prelude.{◌≡◌, ℕ, zero, suc, ◌≤◌, Bool, ◌==◌, Result, MatchResult}
 use Rattle.rules.specs.declared.status.NoStatus.{NoStatus}
 use Rattle.rules.specs.declared.status.Status.{Status}
 use Rattle.rules.specs.declared.status.Status.TheVariants.{I, C, EB, EF}
@@ -10,6 +10,13 @@ number_of I = 0
 number_of C = 1
 number_of EB = 2
 number_of EF = 3
+
+-- the status that a number up to 3 stands for
+abbrev pub status_of : ℕ → Status
+status_of zero = I
+status_of (suc zero) = C
+status_of (suc (suc zero)) = EB
+status_of (suc (suc (suc n))) = EF
 
 -- whether two statuses are the same
 abbrev pub same : Status → Status → Bool
