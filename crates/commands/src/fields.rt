@@ -32,6 +32,7 @@ pub(crate) fn numbers<const N: usize>(fields: &[u8]) -> Result<[u32; N], usize>
 pub(crate) fn named_boards(fields: &[u8]) -> Result<Boards, usize>
     ensures { Named fields.now result }
 {
+    // No `split`: its pieces do not tell how many bytes are left.
     let mut named = Boards::default();
     let mut rest = fields;
     while !rest.is_empty() {
