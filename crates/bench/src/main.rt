@@ -1,12 +1,12 @@
 // Reads a script from standard input and prints its transcript.
 #![tactic(auto)]
 
-use session::transcript;
+use session::{LONGEST, transcript};
 use std::io;
 use std::io::{Read, Write};
 
 // One byte more than the longest script that is answered, so that a longer one is seen to be too long.
-const READ: u64 = 65_537;
+const READ: u64 = LONGEST as u64 + 1;
 
 fn main(rt: HostRuntime) -> io::Result<()> {
     let mut script = Vec::new(rt.alloc());

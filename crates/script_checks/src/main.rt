@@ -5,7 +5,7 @@ use session::transcript;
 use std::io;
 use std::io::{Read, Write};
 
-// The longest script that is answered.
+// The longest script that is answered: written out again, so that another limit in the library shows in what is printed.
 const LONGEST: usize = 65_536;
 
 fn main(rt: HostRuntime) -> io::Result<()> {

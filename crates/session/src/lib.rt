@@ -8,4 +8,4 @@ mod session;
 mod text;
 
 pub use fault::ScriptFault;
-pub use session::transcript;
+pub use session::{LONGEST, transcript};

@@ -10,8 +10,8 @@ use commands::{Command, Kind, read_command};
 use std::alloc::{AllocError, Global};
 use words::Lines;
 
-// A longer script is refused as a whole.
-const LONGEST: usize = 65_536;
+// The most bytes of a script that is answered: a longer one is refused as a whole.
+pub const LONGEST: usize = 65_536;
 
 // The hall that the lines so far have left, if there is one.
 #[derive(Drop)]
