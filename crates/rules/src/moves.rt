@@ -1,5 +1,5 @@
 ghost use Rattle.std.specs.Prelude.{◌≡◌};
-ghost use Rattle.rules.specs.Rules.{taken, followed, Moves};
+ghost use Rattle.rules.specs.Rules.{restated, taken, followed, Moves};
 
 use crate::board::Board;
 use crate::neighbourhood::Neighbourhood;
@@ -14,6 +14,15 @@ use lengths::Length;
 pub struct Move<L> {
     pub verdict: Option<Verdict>,
     pub record: Record<L>,
+}
+
+impl<L: Copy> Record<L> {
+    // The record with another status.
+    fn restated(self, status: Status) -> Record<L>
+        ensures { result ≡ restated self status }
+    {
+        Record { status, ..self }
+    }
 }
 
 impl<'n, L: Length, N: Neighbourhood<L>> Board<'n, L, N> {
@@ -38,18 +47,9 @@ impl<'n, L: Length, N: Neighbourhood<L>> Board<'n, L, N> {
         let own = self.own;
         match (own.status, plan) {
             (Status::C, Some(Plan::RC { port })) => self.taking_offer(port),
-            (Status::C, Some(Plan::REB)) => Record {
-                status: Status::EB,
-                ..own
-            },
-            (Status::EB, Some(Plan::REF)) => Record {
-                status: Status::EF,
-                ..own
-            },
-            (Status::EF, Some(Plan::RI)) => Record {
-                status: Status::I,
-                ..own
-            },
+            (Status::C, Some(Plan::REB)) => own.restated(Status::EB),
+            (Status::EB, Some(Plan::REF)) => own.restated(Status::EF),
+            (Status::EF, Some(Plan::RI)) => own.restated(Status::I),
             (Status::EF | Status::I, Some(Plan::RR { port })) => self.taking_offer(port),
             _ => own,
         }
