@@ -13,10 +13,10 @@ use lengths::Length;
 fn misfits<L: Length>(status: Status, length: L, above: Status, from: L, weight: u32) -> bool
     ensures { result ≡ misfit L.Length.meaning status length above from weight }
 {
-    let Some(reach) = from.extend(weight) else {
-        return true;
-    };
-    above == Status::I || length < reach || status != above && above != Status::EB
+    let reach = from.extend(weight);
+    above == Status::I
+        || reach.is_none_or(|reach| length < reach)
+        || status != above && above != Status::EB
 }
 
 impl<'n, L: Length, N: Neighbourhood<L>> Board<'n, L, N> {
@@ -54,10 +54,11 @@ impl<'n, L: Length, N: Neighbourhood<L>> Board<'n, L, N> {
         ensures { Decides result (ChildrenEF L.Length.meaning self.now.own (N.Neighbourhood.seen self.now.near.now)) }
     {
         for port in 0..8u8 {
-            if let Some(s) = self.near.at(port) {
-                if self.is_parent_of(s) && s.status != Status::EF {
-                    return false;
-                }
+            if let Some(s) = self.near.at(port)
+                && self.is_parent_of(s)
+                && s.status != Status::EF
+            {
+                return false;
             }
         }
         true
@@ -75,10 +76,8 @@ impl<'n, L: Length, N: Neighbourhood<L>> Board<'n, L, N> {
     fn par_shows(&self, status: Status) -> bool
         ensures { result ≡ shows status (N.Neighbourhood.seen self.now.near.now self.now.own.par) }
     {
-        match self.near.at(self.own.par) {
-            Some(s) => s.status == status,
-            None => false,
-        }
+        let up = self.near.at(self.own.par);
+        up.is_some_and(|up| up.status == status)
     }
 
     // A plan that takes the least offer, where a port offers.
@@ -117,7 +116,6 @@ impl<'n, L: Length, N: Neighbourhood<L>> Board<'n, L, N> {
     pub fn verdict(&self) -> Option<Verdict>
         ensures { Judged L.Length.meaning self.now.own (N.Neighbourhood.seen self.now.near.now) result }
     {
-        let plan = self.plan()?;
-        Some(plan.verdict())
+        self.plan().map(Plan::verdict)
     }
 }

@@ -9,12 +9,8 @@ use lengths::Length;
 pub(crate) fn offer<L: Length, N: Neighbourhood<L>>(near: &N, port: u8) -> Option<L>
     ensures { result ≡ offered L.Length.meaning (N.Neighbourhood.seen near.now port) }
 {
-    let neighbour = near.at(port)?;
-    if neighbour.status == Status::C {
-        neighbour.length.extend(neighbour.weight)
-    } else {
-        None
-    }
+    let neighbour = near.at(port).filter(|s| s.status == Status::C)?;
+    neighbour.length.extend(neighbour.weight)
 }
 
 // The least offer and its port, the lowest among equals; nothing where no port offers.

@@ -2,7 +2,7 @@ ghost use Rattle.std.specs.Prelude.{◌≡◌};
 ghost use Rattle.rules.specs.Status.{number_of, NumberOf};
 
 // What a board believes of its way: I has none, C has one, EB has lost it and tells its children, EF has heard them all confirm.
-// A frame and a script write it as its number.
+// A frame and a line `plant` write its number, a transcript its word.
 #[derive(Clone, Copy, Debug, PartialEq, Eq)]
 pub enum Status {
     I = 0,
@@ -12,7 +12,7 @@ pub enum Status {
 }
 
 // A number that stands for no status.
-#[derive(Clone, Copy)]
+#[derive(Debug, Clone, Copy, PartialEq, Eq)]
 pub struct NoStatus;
 
 impl From<Status> for u8 {
