@@ -1,5 +1,5 @@
 -- What each call of a hall answers and does.
-use Rattle.std.specs.Prelude.{◌≡◌, ℕ, ◌+◌, ◌-◌, ◌^◌, ◌<◌, ◌≤◌, min, Bool, true, false, cond, not, ◌||◌, [], ◌∷◌, length, is_some, Some, None, Ok, Err, Option, Result, MatchOption, ◌==◌, ◌≢◌, nat_le, nat_lt, slice_index_or, slice_set}
+use Rattle.std.specs.Prelude.{◌≡◌, ℕ, ◌+◌, ◌-◌, ◌^◌, ◌<◌, ◌≤◌, min, Bool, true, false, cond, not, ◌||◌, ◌⊎◌, [], ◌∷◌, length, is_some, Some, None, Ok, Err, Option, Result, MatchOption, ◌==◌, ◌≢◌, nat_le, nat_lt, slice_index_or, slice_set}
 use Rattle.lengths.specs.Kind.{Kind}
 use Rattle.rules.specs.Records.{is_no_record, Numbered}
 use Rattle.rules.specs.declared.verdict.Plan.{Plan}
@@ -159,7 +159,7 @@ There h b (Err f) = (f ≡ Board) × (boards_in h ≤ b)
 
 -- board b as the rules see it through the hall's tables, or nothing for board 0 and for what is no board
 abbrev pub Sees : {V : Type 0} → Hall V → ℕ → Option (Around V) → Type 0
-Sees h b r = MatchOption r (((b ≡ 0 → ⊥) × (b < boards_in h)) → ⊥) (λ a. (b ≢ 0) × (b < boards_in h) × (a.cabling.now ≡ h.cabling) × (a.records.now ≡ h.ledger.records) × (a.board ≡ b))
+Sees h b r = MatchOption r ((b ≡ 0) ⊎ (boards_in h ≤ b)) (λ a. (b ≢ 0) × (b < boards_in h) × (a.cabling.now ≡ h.cabling) × (a.records.now ≡ h.ledger.records) × (a.board ≡ b))
 
 -- how board b would move on these cables and records: by its verdict, and not at all where it has none
 abbrev pub PlanOn : {V : Type 0} → Kind V → ℕ → (ℕ → ℕ → Option End) → (ℕ → Record V) → ℕ → Option Plan → Type 0

@@ -7,7 +7,7 @@ use network::End;
 mod cables;
 
 // How many boards there are, and the far end of the cable at each port. Every cable stands at both its ends.
-#[derive(Clone, Copy)]
+#[derive(Drop)]
 pub(crate) struct Cabling {
     n: u32,
     ends: [[Option<End>; 8]; 64],

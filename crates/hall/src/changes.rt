@@ -22,8 +22,7 @@ fn isolated<L: Length>() -> Ledger<L>
 {
     let record = Record {
         status: Status::I,
-        par: 255,
-        length: L::start(),
+        ..Record::root()
     };
     Ledger {
         records: [record; 64],
@@ -48,8 +47,8 @@ impl<L: Length> Hall<L> {
     pub fn wire(&mut self, a: u32, p: u32, b: u32, q: u32, weight: u32) -> Result<(), Fault>
         ensures { Wires L.Length.meaning self.old a p b q weight result self.new }
     {
-        self.there(a)?;
-        self.there(b)?;
+        self.check_board(a)?;
+        self.check_board(b)?;
         if 7 < p || 7 < q {
             return Err(Fault::Port);
         }
@@ -71,7 +70,7 @@ impl<L: Length> Hall<L> {
     pub fn cut(&mut self, a: u32, p: u32) -> Result<(), Fault>
         ensures { Cuts L.Length.meaning self.old a p result self.new }
     {
-        self.there(a)?;
+        self.check_board(a)?;
         if 7 < p {
             return Err(Fault::Port);
         }
@@ -85,7 +84,7 @@ impl<L: Length> Hall<L> {
     pub fn plant(&mut self, board: u32, status: u32, par: u32, code: u64) -> Result<(), Fault>
         ensures { Planted L.Length.meaning self.old board status par code result self.new }
     {
-        self.there(board)?;
+        self.check_board(board)?;
         if board == 0 {
             return Err(Fault::Root);
         }

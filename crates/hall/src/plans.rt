@@ -8,7 +8,7 @@ use rules::Plan;
 use sets::{Members, with, without};
 
 // How each board would move, as it was last judged.
-#[derive(Clone, Copy)]
+#[derive(Drop)]
 pub(crate) struct Plans {
     pub(crate) of: [Option<Plan>; 64],
 }

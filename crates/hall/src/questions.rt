@@ -7,7 +7,7 @@ use crate::plans::Plans;
 use crate::tables::{Hall, Tally};
 use crate::view::record_at;
 use lengths::Length;
-use rules::{Record, Status, Verdict};
+use rules::{Plan, Record, Status, Verdict};
 
 // A board's record, its verdict, and whether it is an alive abnormal root.
 #[derive(Clone, Copy)]
@@ -19,7 +19,7 @@ pub struct Look<L> {
 
 impl<L: Length> Hall<L> {
     // Refuses what is no board of the hall.
-    pub(crate) fn there(&self, board: u32) -> Result<(), Fault>
+    pub(crate) fn check_board(&self, board: u32) -> Result<(), Fault>
         ensures { There self.now board result }
     {
         if self.cabling.boards() <= board {
@@ -29,10 +29,10 @@ impl<L: Length> Hall<L> {
     }
 
     // The verdict of a board; board 0, and what is no board, has none.
-    pub(crate) fn verdict_at(&self, board: u32) -> Option<Verdict>
+    fn verdict_at(&self, board: u32) -> Option<Verdict>
         ensures { IsVerdict L.Length.meaning self.now board result }
     {
-        self.plan_at(board).map(|plan| plan.verdict())
+        self.plan_at(board).map(Plan::verdict)
     }
 
     // Whether a board is an abnormal root that is C or EB; board 0 is none.
@@ -43,15 +43,15 @@ impl<L: Length> Hall<L> {
         let Some(around) = self.ruled(board) else {
             return false;
         };
-        let own = around.board();
-        own.is_abnormal_root() && (own.own.status == Status::C || own.own.status == Status::EB)
+        let board = around.board();
+        board.is_abnormal_root() && matches!(board.own.status, Status::C | Status::EB)
     }
 
     // A board's record, its verdict, and whether it is an alive abnormal root.
     pub fn look(&self, board: u32) -> Result<Look<L>, Fault>
         ensures { Looks L.Length.meaning self.now board result }
     {
-        self.there(board)?;
+        self.check_board(board)?;
         Ok(Look {
             record: record_at(&self.ledger.records, board),
             verdict: self.verdict_at(board),
@@ -63,7 +63,7 @@ impl<L: Length> Hall<L> {
     pub fn tally(&self, board: u32) -> Result<Tally, Fault>
         ensures { Tallies self.now board result }
     {
-        self.there(board)?;
+        self.check_board(board)?;
         Ok(self.tallies[board as usize])
     }
 

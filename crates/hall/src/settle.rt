@@ -17,11 +17,8 @@ impl<L: Length> Hall<L> {
         let mut near = set;
         for port in 0..8 {
             // A free port adds the board itself, which is cheaper than a jump.
-            let far = match self.cabling.far(board, port) {
-                Some(end) => u32::from(end.board),
-                None => board,
-            };
-            near = with(near, far);
+            let end = self.cabling.far(board, port);
+            near = with(near, end.map_or(board, |end| u32::from(end.board)));
         }
         near
     }

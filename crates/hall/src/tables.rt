@@ -5,7 +5,8 @@ use rules::Record;
 use std::alloc::AllocError;
 
 // The records of the boards. What stands at board 0 is not read: the root's record never changes.
-// A struct of their own, since no step is proved that copies an array of a type parameter's values from behind a reference.
+// A struct of their own: a turn copies them and nothing else, and no step is proved that copies an array of a type parameter's
+// values, alone, from behind a reference.
 #[derive(Copy)]
 pub(crate) struct Ledger<L> {
     pub(crate) records: [Record<L>; 64],
@@ -37,7 +38,7 @@ pub struct Tally {
     pub rejoined: u64,
 }
 
-// A hall whose lengths are of the kind L. A turn copies the records and nothing else, so they stand in a table of their own.
+// A hall whose lengths are of the kind L.
 #[derive(Drop)]
 pub struct Hall<L> {
     pub(crate) cabling: Cabling,

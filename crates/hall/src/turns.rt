@@ -66,7 +66,7 @@ impl<L: Length> Hall<L> {
     pub fn turn(&mut self, set: u64) -> Result<u32, Fault>
         ensures { Turns L.Length.meaning self.old set result self.new }
     {
-        if let Some(_) = least_from(set, self.cabling.boards()) {
+        if least_from(set, self.cabling.boards()).is_some() {
             return Err(Fault::Board);
         }
         if set == 0 {

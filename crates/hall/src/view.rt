@@ -6,8 +6,8 @@ use crate::cabling::Cabling;
 use lengths::Length;
 use rules::{Board, Neighbourhood, Record, Seen};
 
-// What one board of a hall sees through the hall's tables. The records are a slice, since each call that takes an array of a
-// type parameter's values has to be shown that the array fits in memory.
+// What one board of a hall sees through the hall's tables. The records are a slice: for an array of a type parameter's values it
+// stayed open, at each call that takes it, that the array fits in memory.
 #[derive(Drop)]
 pub(crate) struct Around<'a, L> {
     pub(crate) cabling: &'a Cabling,
@@ -46,11 +46,6 @@ impl<'a, L: Length> Neighbourhood<L> for Around<'a, L> {
     fn at(&self, port: u8) -> Option<Seen<L>> {
         let end = self.cabling.far(self.board, u32::from(port))?;
         let record = record_at(self.records, u32::from(end.board));
-        Some(Seen {
-            status: record.status,
-            length: record.length,
-            weight: end.weight,
-            named: record.par == end.port,
-        })
+        Some(Seen::of(record, end.port, end.weight))
     }
 }

@@ -1,5 +1,5 @@
 -- The rules, over whatever a board sees: `near` says what each port shows.
-use Rattle.std.specs.Prelude.{◌≡◌, ℕ, ◌<◌, Bool, true, false, cond, not, ◌&&◌, ◌||◌, ◌⊎◌, Some, None, Option}
+use Rattle.std.specs.Prelude.{◌≡◌, ℕ, ◌<◌, Bool, true, false, cond, not, ◌&&◌, ◌||◌, ◌⊎◌, Some, None, Option, ◌==◌}
 use Rattle.lengths.specs.Kind.{Kind}
 use Rattle.rules.specs.Status.{same}
 use Rattle.rules.specs.declared.neighbourhood.Seen.{Seen}
@@ -10,6 +10,10 @@ use Rattle.rules.specs.declared.verdict.Plan.{Plan}
 use Rattle.rules.specs.declared.verdict.Plan.TheVariants as plan
 use Rattle.rules.specs.declared.verdict.Verdict.{Verdict}
 use Rattle.rules.specs.declared.verdict.Verdict.TheVariants.{RC, REB, REF, RI, RR}
+
+-- what a cable of weight w shows of a neighbour with this record, at whose port p it ends
+abbrev pub seen_of : {V : Type 0} → Record V → (p w : ℕ) → Seen V
+seen_of own p w = record { status = own.status; length = own.length; weight = w; named = (own.par == p) }
 
 -- what a port that shows this offers: the extension of a C neighbour's length
 abbrev pub offered : {V : Type 0} → Kind V → Option (Seen V) → Option V

@@ -49,7 +49,7 @@ impl<'n, L: Length, N: Neighbourhood<L>> Board<'n, L, N> {
             )
     }
 
-    // Whether every child is EF.
+    // Whether every child is EF. A `for`: for a chain with `all` it stayed open that every port was looked at.
     fn children_ef(&self) -> bool
         ensures { Decides result (ChildrenEF L.Length.meaning self.now.own (N.Neighbourhood.seen self.now.near.now)) }
     {

@@ -30,11 +30,14 @@ impl<'n, L: Length, N: Neighbourhood<L>> Board<'n, L, N> {
     fn taking_offer(&self, port: u8) -> Record<L>
         ensures { result ≡ taken L.Length.meaning self.now.own (N.Neighbourhood.seen self.now.near.now) port }
     {
-        offer(self.near, port).map_or(self.own, |length| Record {
-            status: Status::C,
-            par: port,
-            length,
-        })
+        offer(self.near, port).map_or(
+            self.own,
+            |length| Record {
+                status: Status::C,
+                par: port,
+                length,
+            },
+        )
     }
 
     // The record once it has followed a plan. One with no plan, or with another status than the plan is for, stays as it is.

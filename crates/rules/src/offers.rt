@@ -13,7 +13,8 @@ pub(crate) fn offer<L: Length, N: Neighbourhood<L>>(near: &N, port: u8) -> Optio
     neighbour.length.extend(neighbour.weight)
 }
 
-// The least offer and its port, the lowest among equals; nothing where no port offers.
+// The least offer and its port, the lowest among equals; nothing where no port offers. A `for`: for a chain with `min_by_key` it
+// stayed open that what it gives is the least offer.
 pub fn least_offer<L: Length, N: Neighbourhood<L>>(near: &N) -> Option<(u8, L)>
     ensures { MatchOption result (SomeOffer L.Length.meaning (N.Neighbourhood.seen near.now) → ⊥) (λ o. LeastOffer L.Length.meaning (N.Neighbourhood.seen near.now) o.0 o.1) }
 {

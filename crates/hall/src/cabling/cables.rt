@@ -19,7 +19,7 @@ impl Cabling {
     pub(crate) fn new(n: u32) -> Option<Cabling>
         ensures { MatchOption result ((0 < n) × (n ≤ 64) → ⊥) (λ c. (0 < n) × (n ≤ 64) × (c.n ≡ n) × ((b p : ℕ) → far_of c.ends b p ≡ None)) }
     {
-        if n < 1 || 64 < n {
+        if !(1..=64).contains(&n) {
             return None;
         }
         let ends = no_cables();

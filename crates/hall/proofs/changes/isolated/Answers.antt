@@ -6,5 +6,5 @@ use Rattle.hall.proofs.changes.isolated.Goals as goal
 
 pub returns : goal.returns
 returns g c b pos lt =
-    let own : g.row.L.Denot → Record g.row.L.Denot = λ l. record { status = I; par = 255; length = l } in
-    all_alike g.L.Length.meaning (own c.start.result) b pos lt ∙ ap own c.start.ensures
+    let own : Record g.row.L.Denot → Record g.row.L.Denot = λ r. record { status = I; par = r.par; length = r.length } in
+    all_alike g.L.Length.meaning (own c.root.result) b pos lt ∙ ap own c.root.ensures

@@ -3,12 +3,6 @@ use Rattle.hall.proofs.CableLaw.{cabled, in_table}
 use Rattle.hall.proofs.Rewiring.{put, put_rows, removes, removes_cabled}
 use Rattle.hall.proofs.cabling.Cabling.cut.Goals as goal
 
-pub bounds-self-a : goal.bounds-self-a
-bounds-self-a c = let self = c.args.self.now in (in_table self.wired self.few c.args.a c.args.p c.args.end c.requires.stands).board
-
-pub bounds-self-p : goal.bounds-self-p
-bounds-self-p c = let self = c.args.self.now in (in_table self.wired self.few c.args.a c.args.p c.args.end c.requires.stands).port
-
 pub bounds-self-end : goal.bounds-self-end
 bounds-self-end c = let self = c.args.self.now in (in_table self.wired self.few c.args.a c.args.p c.args.end c.requires.stands).far_board
 

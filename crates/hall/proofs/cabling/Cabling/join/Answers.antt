@@ -19,10 +19,3 @@ invariant_of-self c =
       rows = put_rows (put self.ends c.args.a c.args.p there) rows c.args.b c.args.q here hb;
       wired = ∣ adds_cabled (cabled self.wired) c.requires.a_inside c.requires.b_inside c.requires.p_inside c.requires.q_inside c.requires.apart c.requires.p_free c.requires.q_free ad ∣₁;
     }
-
-pub returns : goal.returns
-returns c =
-    let self = c.args.self.now in
-    let ha : c.args.a < 64 = omega (arith, self.few) in
-    let hb : c.args.b < 64 = omega (arith, self.few) in
-    record { boards = refl; cables = adds self.ends self.rows c.args.a c.args.p c.args.b c.args.q c.args.weight ha hb c.requires.p_inside c.requires.q_inside c.requires.apart }
