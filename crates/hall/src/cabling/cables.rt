@@ -36,11 +36,7 @@ impl Cabling {
     pub(crate) fn far(&self, board: u32, port: u32) -> Option<End>
         ensures { result ≡ far_of self.now.ends board port }
     {
-        if board < 64 && port < 8 {
-            self.ends[board as usize][port as usize]
-        } else {
-            None
-        }
+        *self.ends.get(board as usize)?.get(port as usize)?
     }
 
     // A cable between free ports of two different boards.
