@@ -1,4 +1,4 @@
-use Rattle.std.proofs.Common.{◌<◌, Some, refl, arith}
+use Rattle.std.proofs.Common.{◌<◌, Some, arith}
 use Rattle.network.specs.Cables.{end_at}
 use Rattle.hall.proofs.CableLaw.{cabled}
 use Rattle.hall.proofs.Rewiring.{put, put_rows, adds, adds_cabled}

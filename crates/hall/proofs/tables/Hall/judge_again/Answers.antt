@@ -1,19 +1,8 @@
-use Rattle.std.proofs.Common.{◌≡◌, ℕ, ◌<◌, ◌≤◌, false, length, set, sym, refl, ap, ◌∙◌, subst, arith, rules}
-use Rattle.sets.specs.Sets.{has, LeastFrom}
-use Rattle.sets.specs.declared.members.Members.{Members}
+use Rattle.std.proofs.Common.{◌≡◌, ◌<◌, length, set, sym, refl, ◌∙◌, subst, arith, rules}
+use Rattle.sets.specs.Sets.{LeastFrom}
 use Rattle.hall.specs.declared.plans.Plans.{Plans}
-use Rattle.hall.proofs.Judging.{Judging, nobody_judged, judged, all_judged, not_yet, put_plan, other_plan, with_others, with_itself}
+use Rattle.hall.proofs.Judging.{Judging, judged, not_yet, put_plan, other_plan, with_others, with_itself}
 use Rattle.hall.proofs.tables.Hall.judge_again.Goals as goal
-
-pub loop-board-init : goal.loop-board-init
-loop-board-init g c =
-    let k = g.L.Length.meaning in
-    let h = c.args.self.now in
-    let e = c.without-enabled.result in
-    let same = c.into_iter-board-iterator.ensures.into_iter_gives in
-    let made = c.of-board-items.ensures in
-    let start = ap (λ (m : Members). m.from) same ∙ made.start in
-    (ap (λ (m : Members). m.set) same ∙ made.whole, subst (λ m. Judging k h c.args.set c.args.doubtful c.args.plans.now m e c.args.plans.now) (sym start) (nobody_judged k h c.args.set c.args.doubtful c.args.plans.now e c.without-enabled.type_inv c.without-enabled.ensures))
 
 pub loop-board-preserved : goal.loop-board-preserved
 loop-board-preserved g c =
@@ -57,9 +46,3 @@ loop-board-preserved-then-is_some g c =
     let inside : m < length old.of = omega (arith, step.3) in
     let next = judged k h s d first from m e r old new plan inv.1 found c.plan_at-plan.ensures (put_plan old m plan inside) (other_plan old m plan) c.with-enabled.type_inv (with_others e r m c.with-enabled.ensures) (with_itself e r m step.3 c.with-enabled.ensures ∙ c.if-is_some.ensures) in
     (step.1 ∙ inv.0, subst (λ x. Judging k h s d first x r new) (sym step.2) next)
-
-pub returns : goal.returns
-returns g c =
-    let inv = c.loop-board.invariant in
-    let from = c.loop-board.board-iterator.from in
-    all_judged g.L.Length.meaning c.args.self.now c.args.set c.args.doubtful c.args.plans.now from c.loop-board.enabled c.loop-board.plans inv.1 (subst (λ d. (b : ℕ) → from ≤ b → has d b ≡ false) inv.0 c.in-None.ensures.steps)

@@ -1,6 +1,6 @@
-use Rattle.std.proofs.Common.{◌≡◌, ℕ, ◌≤◌, false, sym, ◌∙◌, subst}
-use Rattle.sets.specs.Sets.{has, LeastFrom}
-use Rattle.hall.proofs.Nearby.{NearBelow, near_more, near_all}
+use Rattle.std.proofs.Common.{sym, ◌∙◌, subst}
+use Rattle.sets.specs.Sets.{LeastFrom}
+use Rattle.hall.proofs.Nearby.{NearBelow, near_more}
 use Rattle.hall.proofs.tables.Hall.near.Goals as goal
 
 pub loop-board-preserved : goal.loop-board-preserved
@@ -11,9 +11,3 @@ loop-board-preserved g c =
     let from = c.loop-board.board-iterator.from in
     let next = subst (λ s. LeastFrom s from c.in-Some.board) inv.0 step.0 in
     (step.1 ∙ inv.0, subst (λ m. NearBelow h c.args.moved m c.with_neighbours-near.result) (sym step.2) (near_more h c.args.moved from c.in-Some.board c.loop-board.near c.with_neighbours-near.result inv.1 next c.with_neighbours-near.ensures))
-
-pub returns : goal.returns
-returns g c =
-    let inv = c.loop-board.invariant in
-    let from = c.loop-board.board-iterator.from in
-    near_all c.args.self.now c.args.moved from c.loop-board.near _ inv.1 (subst (λ s. (b : ℕ) → from ≤ b → has s b ≡ false) inv.0 c.in-None.ensures.steps)

@@ -1,4 +1,4 @@
-use Rattle.std.proofs.Common.{sym, subst, rules}
+use Rattle.std.proofs.Common.{sym, subst}
 use Rattle.pickers.specs.Choices.{Chooses}
 use Rattle.hall.specs.Hall.{EnabledSet, Turned}
 use Rattle.hall.specs.Runs.{Settles}
@@ -10,11 +10,6 @@ use Rattle.hall.proofs.tables.Hall.settle.Goals as goal
 -- the choice holds only enabled boards
 chooses : (g : given.Over) (c : goal.After-enabled_after-enabled g) → Chooses c.ask-chosen.result c.loop-enabled.enabled
 chooses g c = subst (λ x. Chooses x c.loop-enabled.enabled) (sym c.ask-chosen.ensures.answer) (g.met.P.Picker.chooses c.loop-enabled.picker c.loop-enabled.enabled c.loop-enabled.invariant.0.small)
-
-pub advance-requires : goal.advance-requires
-advance-requires g c =
-    let chosen = subst (λ x. Chooses x c.loop-enabled.enabled) (sym c.ask-chosen.ensures.answer) (g.met.P.Picker.chooses c.loop-enabled.picker c.loop-enabled.enabled c.loop-enabled.invariant.0.small) in
-    (search rules, λ b in-choice. c.loop-enabled.invariant.1 b (chosen.within b in-choice))
 
 -- and these have moved
 turned : (g : given.Over) (c : goal.After-enabled_after-enabled g) → Turned g.L.Length.meaning c.loop-enabled.self c.ask-chosen.result c.advance.new.self

@@ -1,4 +1,4 @@
-use Rattle.std.proofs.Common.{◌≡◌, ℕ, ◌<◌, Bool, true, ◌&&◌, ◌||◌, eqb, ltb, Some, None, Option, MatchOption, ◌∙◌, arith, rules}
+use Rattle.std.proofs.Common.{◌≡◌, ℕ, true, ◌&&◌, ◌||◌, eqb, ltb, Some, None, Option, MatchOption, ◌∙◌, arith, rules}
 use Rattle.network.specs.declared.End.{End}
 use Rattle.sets.specs.Sets.{has}
 use Rattle.hall.specs.Hall.{far_in}
