@@ -5,7 +5,7 @@ use crate::command::Kind;
 use crate::names::kind_of;
 
 // The number that the first field is, and the fields after it.
-fn number_field<'a>(fields: &'a [u8]) -> Option<(u32, &'a [u8])>
+fn number_field(fields: &[u8]) -> Option<(u32, &[u8])>
     ensures takes { TakesNumber fields.now result }
     ensures shorter { Shorter fields.now result }
 {

@@ -1,4 +1,5 @@
 // The words that a script is written with.
+// A word that is no name is no error of its own, the caller says which it is: so these functions answer an Option, and are no TryFrom.
 ghost use Rattle.std.specs.Prelude.{◌≡◌, MatchOption, ◌≢◌};
 ghost use Rattle.commands.specs.Fields.{name_of, kind_name, picker_name};
 

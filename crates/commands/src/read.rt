@@ -5,7 +5,7 @@ use crate::command::Command;
 use crate::fields::{named_boards, numbers, opening};
 use crate::misread::Misread;
 use crate::names::{picker_of, verb_of};
-use crate::verb::{Verb, takes};
+use crate::verb::Verb;
 
 // A longer line is malformed.
 const LONGEST: usize = 200;
@@ -60,7 +60,7 @@ pub fn read_command(line: &[u8]) -> Result<Command, Misread>
     let count = words::word_count(line).ok_or(Misread::Malformed)?;
     let (word, fields) = words::first(line, b' ');
     let verb = verb_of(word).ok_or(Misread::Unknown)?;
-    if !takes(verb, count - 1) {
+    if !verb.takes(count - 1) {
         return Err(Misread::Count);
     }
     command_of(verb, fields).map_err(|left| Misread::Field {

@@ -14,16 +14,18 @@ pub(crate) enum Verb {
     Show,
 }
 
-// Whether a verb may have so many fields.
-pub(crate) fn takes(verb: Verb, count: usize) -> bool
-    ensures { Decides result (Counts verb count) }
-{
-    match verb {
-        Verb::New | Verb::Cut => count == 2,
-        Verb::Wire => count == 5,
-        Verb::Plant => count == 4,
-        Verb::Turn => true,
-        Verb::Settle | Verb::Tally => count == 1,
-        Verb::Show => count == 0,
+impl Verb {
+    // Whether a verb may have so many fields.
+    pub(crate) fn takes(self, count: usize) -> bool
+        ensures { Decides result (Counts self count) }
+    {
+        match self {
+            Verb::New | Verb::Cut => count == 2,
+            Verb::Wire => count == 5,
+            Verb::Plant => count == 4,
+            Verb::Turn => true,
+            Verb::Settle | Verb::Tally => count == 1,
+            Verb::Show => count == 0,
+        }
     }
 }

@@ -4,7 +4,7 @@
 mod lines;
 
 ghost use Rattle.std.specs.Prelude.{◌≡◌, ℕ, [], Decides, MatchOption};
-ghost use Rattle.words.specs.Pieces.{Cut, First};
+ghost use Rattle.words.specs.Pieces.{First};
 ghost use Rattle.words.specs.Lines.{FirstLine};
 ghost use Rattle.words.specs.Words.{Word, Counted};
 ghost use Rattle.words.specs.Numerals.{Numeral};
@@ -14,26 +14,18 @@ pub use lines::Lines;
 // A numeral has no more digits than this.
 const DIGITS: usize = 10;
 
-// The bytes before the first `stop`, and those after it, if it is there.
-fn cut<'a>(bytes: &'a [u8], stop: u8) -> (&'a [u8], Option<&'a [u8]>)
-    ensures { Cut stop bytes.now result.0.now result.1 }
+// The bytes before the first `stop`, and those after it, of which there are none where it is not there.
+pub fn first(bytes: &[u8], stop: u8) -> (&[u8], &[u8])
+    ensures { First stop result.0.now result.1.now bytes.now }
 {
     match bytes.iter().position(|b| *b == stop) {
-        Some(at) => (&bytes[..at], Some(&bytes[at + 1..])),
-        None => (bytes, None),
+        Some(at) => (&bytes[..at], &bytes[at + 1..]),
+        None => (bytes, &[]),
     }
 }
 
-// The bytes before the first `stop`, and those after it, of which there are none where it is not there.
-pub fn first<'a>(bytes: &'a [u8], stop: u8) -> (&'a [u8], &'a [u8])
-    ensures { First stop result.0.now result.1.now bytes.now }
-{
-    let (front, rest) = cut(bytes, stop);
-    (front, rest.unwrap_or(&[]))
-}
-
 // The first line of a script, and the script that follows it. None where the script is empty, since no line begins at its end.
-pub fn next_line<'a>(script: &'a [u8]) -> Option<(&'a [u8], &'a [u8])>
+pub fn next_line(script: &[u8]) -> Option<(&[u8], &[u8])>
     ensures { MatchOption result (script.now ≡ []) (λ p. FirstLine p.0.now p.1.now script.now) }
 {
     if script.is_empty() {
@@ -55,7 +47,7 @@ pub fn word_count(line: &[u8]) -> Option<usize>
     ensures { Counted line.now result }
 {
     // No `try_fold`: that its closure's sum fits stays unproved.
-    let mut count = 0;
+    let mut count: usize = 0;
     for word in line.split(|b| *b == b' ') {
         if !is_word(word) {
             return None;

@@ -19,14 +19,14 @@ returns-in_err-verb c =
     let unknown : Unknown ≡ c.in_err-verb.field-0.0 = grind arith in
     let none : c.verb_of.result ≡ None = grind arith in
     let all = counted (goal.at.returns-in_err-verb c).In_ok-count in
-    let p = parts c.args.line.now c.first.result.0.now c.first.result.1.now c.in_ok-count.count all.0 c.if-line-gt-LONGEST.false c.first.ensures all.1 all.2 in
+    let p = parts c.args.line.now c.first.result.0.now c.first.result.1.now c.in_ok-count.count all.0 (omega arith) c.first.ensures all.1 all.2 in
     rw (e.1, e.2, ← unknown) (c.first.result.0.now, p.0, p.1.written, MatchOption-at_none _ _ none c.verb_of.ensures)
 
 -- the words of a line that begins with the word of a verb
 verbed : (c : In_ok-verb) → (fs : List (List ℕ)) × Parts c.args.line.now (name_of c.in_ok-verb.verb) c.first.result.1.now c.in_ok-count.count fs
 verbed c =
     let all = counted (goal.at.In_ok-verb c).In_ok-count in
-    let p = parts c.args.line.now c.first.result.0.now c.first.result.1.now c.in_ok-count.count all.0 c.if-line-gt-LONGEST.false c.first.ensures all.1 all.2 in
+    let p = parts c.args.line.now c.first.result.0.now c.first.result.1.now c.in_ok-count.count all.0 (omega arith) c.first.ensures all.1 all.2 in
     let named : c.verb_of.result ≡ Some c.in_ok-verb.verb = grind arith in
     let is = MatchOption-at_some _ _ _ named c.verb_of.ensures in
     (p.0, subst (λ w. Parts c.args.line.now w c.first.result.1.now c.in_ok-count.count p.0) is p.1)
