@@ -39,13 +39,6 @@ cabled_prop n far x y = λ i. record {
 pub cabled : {n : ℕ} {far : ℕ → ℕ → Option End} → ∥ Cabled n far ∥₁ → Cabled n far
 cabled {n} {far} w = ∥∥₁_elim w (cabled_prop n far) (λ c. c)
 
--- a port is cabled only where there is one
-pub off_table : {n : ℕ} {far : ℕ → ℕ → Option End} → ∥ Cabled n far ∥₁ → n ≤ 64 → (b p : ℕ) → (64 ≤ b) ⊎ (8 ≤ p) → None ≡ far b p
-off_table {n} {far} w few b p out = go (far b p) refl
-  where
-    go : (o : Option End) → far b p ≡ o → None ≡ o
-    go None e = refl
-    go (Some x) e = let h = (cabled w).near b p x e in absurd (omega arith)
 
 -- ports without cables
 pub empty_rows : Rows (replicate 64 (replicate 8 None))
@@ -66,16 +59,6 @@ free_rows (suc n) (suc b) p = free_rows n b p
 pub empty_free : (b p : ℕ) → far_of (replicate 64 (replicate 8 None)) b p ≡ None
 empty_free = free_rows 64
 
-pub no_cable : {n : ℕ} {far : ℕ → ℕ → Option End} → ((b p : ℕ) → far b p ≡ None) → Cabled n far
-no_cable {n} {far} free = record {
-  near = λ b p e h. absurd (none b p e h);
-  there = λ b p e h. absurd (none b p e h);
-  back = λ b p e h. absurd (none b p e h);
-  apart = λ b p e h s. none b p e h;
-}
-  where
-    none : (b p : ℕ) (e : End) → far b p ≡ Some e → ⊥
-    none b p e h = let f = free b p in let z : ◌≡◌ {A = ℕ} 0 1 = cc in omega arith
 
 -- both ends of a cable are in the table, at different boards
 pub record InTable (a p : ℕ) (e : End) : Type 0 where

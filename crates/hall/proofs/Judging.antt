@@ -19,8 +19,6 @@ pub record Judging {V : Type 0} (k : Kind V) (h : Hall V) (s doubtful : ℕ) (be
   pub later : (b : ℕ) → m ≤ b → has e b ≡ (has s b && not (has doubtful b))
   pub unplanned : (b : ℕ) → m ≤ b → plan_of now b ≡ plan_of before b
 
-pub nobody_judged : {V : Type 0} (k : Kind V) (h : Hall V) (s doubtful : ℕ) (before : Plans) (e : ℕ) → e < 2 ^ 64 → ((b : ℕ) → has e b ≡ (has s b && not (has doubtful b))) → Judging k h s doubtful before 0 e before
-nobody_judged k h s doubtful before e small w = record { small = small; done = λ b lt. absurd (omega arith); later = λ b on. w b; unplanned = λ b on. refl }
 
 sure : (x y : Bool) → y ≡ false → (x && not y) ≡ x
 sure true y e = ap not e

@@ -1,8 +1,9 @@
 -- The words of a line are the pieces that `split` gives.
-use Rattle.std.proofs.Common.{◌≡◌, ℕ, ◌<◌, ◌≤◌, eqb, false, List, [], ◌∷◌, ◌++◌, length, get_or, sym, refl, ap, ◌∙◌, subst, arith}
+use Rattle.std.proofs.Common.{◌≡◌, ℕ, ◌<◌, ◌≤◌, Bool, eqb, false, not, List, [], ◌∷◌, ◌++◌, length, get_or, take, Decides, sym, refl, ap, ◌∙◌, subst, arith}
 use Rattle.std.specs.List.{AllByRecursion, slice_split, join_with_byte}
 use Rattle.std.proofs.ByRecursion.{All-get_or}
-use Rattle.std.proofs.lemmas.Bool.{ne_eqb}
+use Rattle.std.proofs.lemmas.Bool.{not-true, not_from_false, eqb-false, ne_eqb}
+use Rattle.std.proofs.lemmas.List.{take_all}
 use Rattle.std.proofs.lemmas.List.Splits.{slice_split_none, slice_split_at, length-slice_split, join_with_byte-slice_split}
 use Rattle.words.specs.Words.{Word, spaced, Spaced, Words}
 
@@ -36,3 +37,10 @@ words_pieces (w ∷ v ∷ ws) line some h =
 pub no_words : (line : List ℕ) (i : ℕ) (w : List ℕ) → i < length (pieces line) → w ≡ get_or (pieces line) i w → (Word w → ⊥) → (ws : List (List ℕ)) → Words ws line → ⊥
 no_words line i w inside is bad ws h =
     bad (subst Word (sym is) (All-get_or Word (pieces line) i w inside (subst (AllByRecursion Word) (words_pieces ws line h.0 h.1) h.1.1)))
+
+-- bytes of which every one passed are a word where there is any
+pub word_if_some : (bytes : List ℕ) (i : ℕ) (empty : Bool) → length bytes ≤ i → AllByRecursion (λ b. (33 ≤ b) × (b ≤ 126)) (take i bytes) → empty ≡ eqb (length bytes) 0 → Decides (not empty) (Word bytes)
+word_if_some bytes i empty all h e = (
+  λ some. let ne = eqb-false (length bytes) 0 (sym e ∙ not-true empty some) in (omega arith, subst (AllByRecursion (λ b. (33 ≤ b) × (b ≤ 126))) (take_all i bytes all) h),
+  λ w. not_from_false empty (e ∙ ne_eqb (length bytes) 0 (λ z. omega (arith, w.0))),
+)

@@ -1,7 +1,8 @@
 -- What stands before the first stop and after it, as the checker reads `&s[..n]` and `&s[n + 1..]`.
-use Rattle.std.proofs.Common.{◌≡◌, ℕ, ◌+◌, ◌-◌, ◌<◌, List, ◌∷◌, ◌++◌, length, get_or, take, drop, ◌≢◌, sym, ap, ◌∙◌, inl, take-append-drop, arith}
+use Rattle.std.proofs.Common.{◌≡◌, ℕ, ◌+◌, ◌-◌, ◌<◌, ◌≤◌, List, ◌∷◌, ◌++◌, length, get_or, take, drop, ◌≢◌, sym, ap, ◌∙◌, inl, take-append-drop, arith}
 use Rattle.std.proofs.ByRecursion.{All-from_get_or}
-use Rattle.std.proofs.lemmas.List.{take_rest, drop_more, get_or-take, length-take-le}
+use native.Mathlib.Nat.{sub-zero}
+use Rattle.std.proofs.lemmas.List.{take_rest, drop_more, take_all, get_or-take, length-take-le}
 use Rattle.words.specs.Pieces.{Lacks, First}
 
 pub no_stop : (bytes : List ℕ) (stop : ℕ) → ((k : ℕ) → k < length bytes → get_or bytes k 0 ≢ stop) → Lacks stop bytes
@@ -14,3 +15,7 @@ at_stop bytes n stop inside is none =
     none k before (sym (get_or-take n bytes k 0 before) ∙ e) in
     rw (take_rest bytes (n + 1))
     (no_stop (take n bytes) stop front, inl (sym (take-append-drop n bytes) ∙ ap (λ l. take n bytes ++ l) (drop_more bytes n 0 inside ∙ ap (λ b. b ∷ drop (n + 1) bytes) is)))
+
+-- where the index is past the end, all stands before it
+pub at_the_end : (bytes : List ℕ) (n stop : ℕ) → length bytes ≤ n → Lacks stop (take n bytes) → Lacks stop (take (n - 0) bytes) × (bytes ≡ take (n - 0) bytes)
+at_the_end bytes n stop past lacks = rw (sub-zero n) (lacks, sym (take_all n bytes past))
