@@ -73,11 +73,6 @@ Unhearable k l ear port frame BadRecord = ⊥
 Unhearable k l ear port frame Unheard = ⊥
 Unhearable k l ear port frame Room = ⊥
 
--- a frame is looked at before it is heard
-abbrev pub ChecksHearing : {V : Type 0} → Kind V → Listening V → List ℕ → ℕ → List ℕ → Result (Unit {0}) EarFault → Type 0
-ChecksHearing k l ear port frame (Ok _) = Audible l ear port × IsFrame k frame
-ChecksHearing k l ear port frame (Err f) = Unhearable k l ear port frame f
-
 -- hear
 abbrev pub Hears : {V : Type 0} → Kind V → Listening V → List ℕ → ℕ → List ℕ → Result (Listening V) (Listening V × EarFault) → List ℕ → Type 0
 Hears k before ear port frame (Ok after) ear' = Audible before ear port × IsFrame k frame × HeardOne before port after × (ear' ≡ put ear port frame)

@@ -10,8 +10,8 @@ use lengths::Length;
 use rules::{Board, Move, Neighbourhood, Record, Seen};
 use std::marker::PhantomData;
 
-// A neighbour's par names this cable where it is the port that the neighbour sent from. (A private view of the ports and
-// the ear would hide `at`, but be one struct and one value more.)
+// A neighbour's par names this cable where it is the port that the neighbour sent from. (The impl stands on the state, so that
+// `at` can be called from outside; a private view would be one struct and one value more.)
 impl<'e, L: Length> Neighbourhood<L> for Ready<'e, L> {
     ghost seen = { λ s. seen_in L.Length.meaning s.station.ports s.ear.now };
 
@@ -41,20 +41,18 @@ impl<'e, L: Length> Ready<'e, L> {
         ensures moves { Advances L.Length.meaning self.entry result }
         ensures agrees { AsInHall L.Length.meaning self.entry result }
     {
-        if self.station.root {
-            return Owing {
-                station: self.station,
-                verdict: None,
-                kind: PhantomData,
+        let (station, verdict) = if self.station.root {
+            (self.station, None)
+        } else {
+            let board = Board {
+                own: self.own(),
+                near: &self,
             };
-        }
-        let board = Board {
-            own: self.own(),
-            near: &self,
+            let Move { verdict, record } = board.moved();
+            (Station::of(false, record, self.station.ports), verdict)
         };
-        let Move { verdict, record } = board.moved();
         Owing {
-            station: Station::of(false, record, self.station.ports),
+            station,
             verdict,
             kind: PhantomData,
         }

@@ -38,7 +38,9 @@ fn first_station<L: Length>(
 }
 
 impl<L: Length> Listening<L> {
-    // A board that has heard nothing yet. The root's record is always C, 255 and the start, whatever the numbers.
+    // A board that has heard nothing yet. The root's record is always C, 255 and the start, whatever the numbers: they stand
+    // beside `root` as parameters of their own, since the call is given them so, and for a root no record may be made of them.
+    // The subject sets the eight weights: a board has eight ports.
     pub fn begin(
         root: bool,
         status: u32,

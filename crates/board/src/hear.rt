@@ -1,5 +1,5 @@
-ghost use Rattle.std.specs.Prelude.{◌≡◌, ◌+◌, ◌*◌, ◌≤◌, length};
-ghost use Rattle.board.specs.Hear.{put, ChecksFrame, ChecksHearing, Hears};
+ghost use Rattle.std.specs.Prelude.{◌≡◌, ◌<◌, length};
+ghost use Rattle.board.specs.Hear.{put, ChecksFrame, Hears};
 
 use crate::fault::EarFault;
 use crate::states::Listening;
@@ -20,10 +20,9 @@ pub(crate) fn check_frame<L: Length>(bytes: &[u8]) -> Result<(), EarFault>
     Ok(())
 }
 
-// Puts a frame into the slot of a port. (The ear is a slice here: as an array it would be converted again after the
-// checks, with a refusal that cannot come.)
-fn put_frame(ear: &mut [u8], port: u32, frame: &[u8])
-    requires room { 16 * port + 16 ≤ length ear.old }
+// Puts a frame into the slot of a port.
+fn put_frame(ear: &mut [u8; 128], port: u32, frame: &[u8])
+    requires room { port < 8 }
     requires frame { length frame.now ≡ 16 }
     ensures { ear.new ≡ put ear.old port frame.now }
 {
@@ -32,20 +31,8 @@ fn put_frame(ear: &mut [u8], port: u32, frame: &[u8])
 }
 
 impl<L: Length> Listening<L> {
-    // Whether a frame can be heard at a port: the ear, then the port, then the frame.
-    fn check_hearing(&self, ear: &[u8], port: u32, frame: &[u8]) -> Result<(), EarFault>
-        ensures { ChecksHearing L.Length.meaning self.now ear.now port frame.now result }
-    {
-        if ear.len() != 128 {
-            return Err(EarFault::Ear);
-        }
-        if !self.station.ports.wired(port) {
-            return Err(EarFault::Unwired);
-        }
-        check_frame::<L>(frame)
-    }
-
-    // Hears the record frame that came in at a port: puts it into the port's slot of the ear.
+    // Hears the record frame that came in at a port: puts it into the port's slot of the ear. The ear is looked at first, then
+    // the port, then the frame.
     pub fn hear(
         self,
         ear: &mut [u8],
@@ -54,7 +41,13 @@ impl<L: Length> Listening<L> {
     ) -> Result<Listening<L>, (Listening<L>, EarFault)>
         ensures { Hears L.Length.meaning self ear.old port frame.now result ear.new }
     {
-        if let Err(fault) = self.check_hearing(ear, port, frame) {
+        let Some(ear) = ear.as_mut_array::<128>() else {
+            return Err((self, EarFault::Ear));
+        };
+        if !self.station.ports.wired(port) {
+            return Err((self, EarFault::Unwired));
+        }
+        if let Err(fault) = check_frame::<L>(frame) {
             return Err((self, fault));
         }
         put_frame(ear, port, frame);

@@ -1,7 +1,8 @@
 ghost use Rattle.std.specs.Prelude.{◌≡◌};
 ghost use Rattle.board.specs.Station.{GivenWeights, weight_at, wired_at};
 
-// The weight of the cable at each port that is wired: a field for each port and no array, since a board's state is plain numbers.
+// The weight of the cable at each port that is wired: a field for each port, since no state of a board end holds an array of
+// its own.
 #[derive(Clone, Copy)]
 pub(crate) struct Ports {
     weight0: Option<u32>,

@@ -55,13 +55,12 @@ impl<L: Length> Listening<L> {
     pub fn ready<'e>(self, ear: &'e [u8]) -> Result<Ready<'e, L>, (Listening<L>, EarFault)>
         ensures { Readies L.Length.meaning self ear.now result }
     {
-        match self.check_ready(ear) {
-            Ok(ear) => Ok(Ready {
+        self.check_ready(ear)
+            .map(|ear| Ready {
                 station: self.station,
                 ear,
                 kind: PhantomData,
-            }),
-            Err(fault) => Err((self, fault)),
-        }
+            })
+            .map_err(|fault| (self, fault))
     }
 }

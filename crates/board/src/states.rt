@@ -12,7 +12,8 @@ pub struct Listening<L> {
     pub(crate) kind: PhantomData<L>,
 }
 
-// A board that has heard every neighbour, over the ear that it heard them with, until it moves.
+// A board that has heard every neighbour, over the ear that it heard them with, until it moves. The subject sets the size of
+// the ear: a slot of 16 bytes for each of a board's eight ports.
 #[derive(Drop)]
 pub struct Ready<'e, L> {
     pub(crate) station: Station,

@@ -6,7 +6,8 @@ use lengths::Length;
 use rules::{Record, Status};
 
 // A board in numbers: whether it is the root, its record with the length by its code, and its ports. The record of a root is
-// not read; it stands beside the flag and in no `Option`, since the states of a board end hold plain numbers only.
+// not read. It stands beside the flag all the same, and in no `Option`: status, par and code are three plain number fields of
+// every board, as the fixed form of a board end's states has them.
 #[derive(Clone, Copy)]
 pub(crate) struct Station {
     pub(crate) root: bool,

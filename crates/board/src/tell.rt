@@ -1,7 +1,6 @@
-ghost use Rattle.std.specs.Prelude.{◌≡◌, ℕ, ◌+◌, ◌*◌, ◌<◌, ◌≤◌, List, ◌++◌, length, take, drop};
-ghost use Rattle.frames.specs.Record.{frame_of};
+ghost use Rattle.std.specs.Prelude.{◌≡◌, ◌≤◌, ◌++◌, length, drop};
 ghost use Rattle.board.specs.Station.{own_of};
-ghost use Rattle.board.specs.Tell.{wired_below, frames_below, tell_size, Tells};
+ghost use Rattle.board.specs.Tell.{frames_below, tell_size, Tells};
 
 use crate::fault::EarFault;
 use crate::ports::Ports;
@@ -17,7 +16,8 @@ fn tell_size(ports: Ports) -> usize
     16 * (0..8).filter(|port| ports.wired(*port)).count()
 }
 
-// Writes a frame of the record for each wired port, one behind the other.
+// Writes a frame of the record for each wired port, one behind the other. (It is a `for` over the ports with a running size,
+// since where a frame goes depends on how many ports before it are wired.)
 fn write_frames<L: Length>(own: Record<L>, ports: Ports, out: &mut [u8]) -> usize
     requires { tell_size ports ≤ length out.old }
     ensures size { result ≡ tell_size ports }

@@ -28,19 +28,21 @@ one_of_two (unknown kind b) = refl
 
 module _ {V : Type 0} {k : Kind V} (laws : Laws k) where
   -- at the first byte nothing was counted
-  pub counting_none : (bytes : List ℕ) (r : Reader V) → Opens k bytes r → Counting k bytes r (record { records = 0; unknown = 0; stop = None })
-  counting_none bytes r o =
+  pub counting_none : (bytes : List ℕ) (r : Reader V) (s : Survey) → Opens k bytes r → (s.records ≡ 0) × ((s.unknown ≡ 0) × (s.stop ≡ None)) → Counting k bytes r s
+  counting_none bytes r s o zero =
       let there : left r ≡ bytes = ap (λ n. drop n r.input.now) o.place_is ∙ o.input_is in
+      let no_record = zero.0 in
+      let no_unknown = zero.1.0 in
       record {
         same = o.input_is;
-        few = omega arith;
-        counted = λ us e s. record {
+        few = omega (arith, no_record, no_unknown);
+        counted = λ us e x. record {
           items = us;
-          stands = subst (λ n. Stands k n bytes us e) o.place_is (subst (λ x. Stands k r.place x us e) there s);
-          records_are = omega arith;
-          unknown_are = omega arith;
+          stands = subst (λ n. Stands k n bytes us e) o.place_is (subst (λ b. Stands k r.place b us e) there x);
+          records_are = omega (arith, no_record);
+          unknown_are = omega (arith, no_unknown);
         };
-        none = refl;
+        none = zero.1.1;
       }
 
   -- one frame more

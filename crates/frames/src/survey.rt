@@ -5,7 +5,7 @@ use crate::reader::{Fault, Reader};
 use lengths::Length;
 
 // How many frames of each kind a stream has, and the fault that it stops at, if any.
-#[derive(Clone, Copy, Debug, PartialEq, Eq)]
+#[derive(Clone, Copy, Debug, Default, PartialEq, Eq)]
 pub struct Survey {
     pub records: usize,
     pub unknown: usize,
@@ -17,20 +17,14 @@ pub fn survey_stream<L: Length>(bytes: &[u8]) -> Survey
     ensures { Surveyed L.Length.meaning bytes.now result }
 {
     let mut reader = Reader::<L>::new(bytes);
-    let mut survey = Survey {
-        records: 0,
-        unknown: 0,
-        stop: None,
-    };
+    let mut survey = Survey::default();
     while let Some(step) = reader.next() {
         match step {
             Ok(Item::Record { .. }) => survey.records += 1,
             Ok(Item::Unknown { .. }) => survey.unknown += 1,
             Err(fault) => {
-                return Survey {
-                    stop: Some(fault),
-                    ..survey
-                };
+                survey.stop = Some(fault);
+                break;
             }
         }
     }

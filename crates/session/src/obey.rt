@@ -26,7 +26,7 @@ fn turn<L: Length>(hall: &mut Hall<L>, boards: Boards) -> Result<u32, Fault>
     hall.turn(boards.set)
 }
 
-// Settles with a new picker of this name: each picker is a type of its own, and a match gives it its call.
+// Settles with a new picker of this name. (Each picker has a call of its own: a `&mut dyn Picker` meets no bound `P: Picker`.)
 fn settle<L: Length>(hall: &mut Hall<L>, name: PickerName)
     ensures { SettlesNamed L.Length.meaning name hall.old hall.new }
 {

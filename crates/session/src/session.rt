@@ -91,6 +91,7 @@ pub fn transcript(heap: Global, script: &[u8]) -> Result<String, AllocError>
     ensures says { IfOk result (λ s. Transcript script.now (string_bytes s)) }
     ensures only { IfOk result (λ s. (t : List ℕ) → Transcript script.now t → t ≡ string_bytes s) }
 {
+    // This refusal is no `ScriptFault`: it comes before any line is read, so it has no line and no byte.
     if script.len() > LONGEST {
         return String::from_str(heap, "no 35 0 0\n");
     }

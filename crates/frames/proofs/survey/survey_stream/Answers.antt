@@ -5,7 +5,7 @@ use Rattle.frames.proofs.Surveys.{counting_none, counting_more, counted_all}
 use Rattle.frames.proofs.survey.survey_stream.Goals as goal
 
 pub loop-step-init : goal.loop-step-init
-loop-step-init g c = counting_none g.L.Length.lawful _ _ c.new-reader.ensures
+loop-step-init g c = counting_none g.L.Length.lawful _ _ c.default-survey.result c.new-reader.ensures c.default-survey.ensures
 
 pub loop-step-preserved-in-Ok-Record : goal.loop-step-preserved-in-Ok-Record
 loop-step-preserved-in-Ok-Record g c =
@@ -29,6 +29,6 @@ returns-in-Err g c =
     let h = subst (λ s. Steps g.L.Length.meaning c.loop-step.reader (Some s) c.next.new.self) c.in-Err.is c.in-Some.ensures.step in
     counted_all g.L.Length.lawful _ c.loop-step.reader (stopped f.fault f.place) c.loop-step.survey _ c.loop-step.invariant (h.place_is, h.more, h.why) refl
 
-pub returns : goal.returns
-returns g c =
+pub returns-in_default : goal.returns-in_default
+returns-in_default g c =
     counted_all g.L.Length.lawful _ c.loop-step.reader ended c.loop-step.survey _ c.loop-step.invariant c.in_default.ensures.step.0 c.loop-step.invariant.none
