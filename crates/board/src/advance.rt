@@ -19,12 +19,7 @@ impl<'e, L: Length> Neighbourhood<L> for Ready<'e, L> {
         let weight = self.station.ports.weight(u32::from(port))?;
         let fields = slots(self.ear).get(usize::from(port))?;
         let sent = read_record::<L>(fields).ok()?;
-        Some(Seen {
-            status: sent.record.status,
-            length: sent.record.length,
-            weight,
-            named: sent.record.par == sent.port,
-        })
+        Some(Seen::of(sent.record, sent.port, weight))
     }
 }
 
