@@ -1,5 +1,5 @@
 -- The law of cables, out of the struct that keeps it.
-use Rattle.std.proofs.Common.{◌≡◌, ℕ, zero, suc, ◌<◌, ◌≤◌, ◌⊎◌, [], length, get_or, replicate, Some, None, Option, refl, ap, arith}
+use Rattle.std.proofs.Common.{◌≡◌, ℕ, zero, suc, ◌<◌, ◌≤◌, [], length, get_or, replicate, Some, None, Option, refl, ap, arith}
 use mathlib.Core.HLevel.{Π_prop, ×_prop, hedberg, ⊥_prop}
 use mathlib.Core.Logic.{∥∥₁_elim}
 use native.Mathlib.Bridge.{le_prop}

@@ -1,7 +1,6 @@
 ghost use Rattle.std.specs.Prelude.{◌≡◌, ℕ, ◌<◌, slice_index_or};
-ghost use Rattle.rules.specs.declared.verdict.Verdict.{Verdict};
 ghost use Rattle.hall.specs.Tables.{rec_of};
-ghost use Rattle.hall.specs.Hall.{count_of, nothing, new_record, Makes, Wires, Cuts, Planted};
+ghost use Rattle.hall.specs.Hall.{nothing, new_record, Makes, Wires, Cuts, Planted};
 
 use crate::cabling::Cabling;
 use crate::fault::Fault;

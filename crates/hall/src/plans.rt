@@ -1,4 +1,3 @@
-ghost use Rattle.std.specs.Prelude.{◌≡◌};
 ghost use Rattle.hall.specs.Hall.{PlanIn, AllPlanned, EnabledSet, JudgedAgain, Sees};
 
 use crate::tables::Hall;

@@ -1,5 +1,4 @@
-ghost use Rattle.std.specs.Prelude.{◌≡◌, ℕ, ◌<◌, true, List};
-ghost use Rattle.sets.specs.Sets.{has};
+ghost use Rattle.std.specs.Prelude.{List};
 ghost use Rattle.hall.specs.Hall.{boards_in, Reaches, NearAll, EnabledAfter, PlannedAfter};
 ghost use Rattle.hall.specs.Runs.{Settles, Call, Run, IsSettled, EveryRun};
 

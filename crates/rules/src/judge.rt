@@ -1,4 +1,4 @@
-ghost use Rattle.std.specs.Prelude.{◌≡◌, Bool, true, false, Decides, MatchOption};
+ghost use Rattle.std.specs.Prelude.{◌≡◌, Decides, MatchOption};
 ghost use Rattle.rules.specs.Rules.{misfit, abnormal, child, shows, ChildrenEF, SomeOffer, LesserOffer, LeastBelow, Joins, Judged, Plans};
 ghost use Rattle.rules.specs.declared.status.Status.TheVariants.{C};
 

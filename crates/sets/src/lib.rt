@@ -4,7 +4,7 @@
 
 mod members;
 
-ghost use Rattle.std.specs.Prelude.{◌≡◌, ℕ, ◌<◌, ◌≤◌, true, false, not, ◌&&◌, ◌||◌, MatchOption, ◌==◌, nat_lt};
+ghost use Rattle.std.specs.Prelude.{◌≡◌, ℕ, ◌≤◌, true, false, not, ◌&&◌, ◌||◌, MatchOption, ◌==◌, nat_lt};
 ghost use Rattle.sets.specs.Counts.{Count};
 ghost use Rattle.sets.specs.Sets.{has, LeastFrom};
 

@@ -1,4 +1,3 @@
-ghost use Rattle.std.specs.Prelude.{◌≡◌};
 ghost use Rattle.lengths.specs.Grade.{grade};
 ghost use Rattle.lengths.specs.GradeLaws.{grade_laws, grade_ordered};
 

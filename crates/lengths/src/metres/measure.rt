@@ -1,4 +1,3 @@
-ghost use Rattle.std.specs.Prelude.{◌≡◌};
 ghost use Rattle.lengths.specs.Metres.{metres};
 ghost use Rattle.lengths.specs.MetresLaws.{metres_laws, metres_ordered};
 
