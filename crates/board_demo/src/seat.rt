@@ -86,7 +86,8 @@ impl Seat {
             return write_frame(self.board.own(), port);
         };
         let (frames, _) = told.as_chunks::<16>();
-        frames.iter().copied().find(|frame| frame[6] == port)
+        frames.iter().copied().find(|frame| read_record::<Metres>(frame).is_ok_and(|sent| sent.port
+            == port))
     }
 
     // The board hears a frame at a port, and says so.
