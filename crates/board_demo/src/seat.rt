@@ -35,6 +35,11 @@ fn go(
     Ok((board, verdict.is_some(), out[..size].to_vec(rt.alloc())?))
 }
 
+// Whether a frame tells a record that left by this port.
+fn left_by(frame: &[u8; 16], port: u8) -> bool {
+    read_record::<Metres>(frame).is_ok_and(|sent| sent.port == port)
+}
+
 impl Seat {
     // Board 0 begins as the root, and any other with this record; ports 0 and 1 have these weights where they are wired.
     pub(crate) fn begin(
@@ -86,7 +91,7 @@ impl Seat {
             return write_frame(self.board.own(), port);
         };
         let (frames, _) = told.as_chunks::<16>();
-        frames.iter().copied().find(|frame| frame[6] == port)
+        frames.iter().copied().find(|frame| left_by(frame, port))
     }
 
     // The board hears a frame at a port, and says so.

@@ -8,14 +8,18 @@ use std::io::{Read, Write};
 // The longest script that is answered: written out again, so that another limit in the library shows in what is printed.
 const LONGEST: usize = 65_536;
 
+fn print_transcript(rt: &HostRuntime, script: &[u8]) -> io::Result<()> {
+    let answers = transcript(rt.alloc(), script)?;
+    rt.stdout().write_all(answers.as_bytes())
+}
+
 fn main(rt: HostRuntime) -> io::Result<()> {
     let mut script = Vec::new(rt.alloc());
     rt.stdin().read_to_end(&mut script)?;
-    let longest = vec![in rt.alloc(); b'a'; LONGEST]?;
-    let longer = vec![in rt.alloc(); b'a'; LONGEST + 1]?;
-    for script in [&script[..], &longest[..], &longer[..], b""] {
-        let answers = transcript(rt.alloc(), script)?;
-        rt.stdout().write_all(answers.as_bytes())?;
+    print_transcript(&rt, &script)?;
+    for size in [LONGEST, LONGEST + 1, 0] {
+        let script = vec![in rt.alloc(); b'a'; size]?;
+        print_transcript(&rt, &script)?;
     }
     Ok(())
 }
