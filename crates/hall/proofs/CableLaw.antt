@@ -39,7 +39,6 @@ cabled_prop n far x y = λ i. record {
 pub cabled : {n : ℕ} {far : ℕ → ℕ → Option End} → ∥ Cabled n far ∥₁ → Cabled n far
 cabled {n} {far} w = ∥∥₁_elim w (cabled_prop n far) (λ c. c)
 
-
 -- ports without cables
 pub empty_rows : Rows (replicate 64 (replicate 8 None))
 empty_rows b h = ap length (get_or-replicate 64 b (replicate 8 None) [] h)
@@ -58,7 +57,6 @@ free_rows (suc n) (suc b) p = free_rows n b p
 
 pub empty_free : (b p : ℕ) → far_of (replicate 64 (replicate 8 None)) b p ≡ None
 empty_free = free_rows 64
-
 
 -- both ends of a cable are in the table, at different boards
 pub record InTable (a p : ℕ) (e : End) : Type 0 where

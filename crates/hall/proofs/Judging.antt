@@ -19,7 +19,6 @@ pub record Judging {V : Type 0} (k : Kind V) (h : Hall V) (s doubtful : ℕ) (be
   pub later : (b : ℕ) → m ≤ b → has e b ≡ (has s b && not (has doubtful b))
   pub unplanned : (b : ℕ) → m ≤ b → plan_of now b ≡ plan_of before b
 
-
 sure : (x y : Bool) → y ≡ false → (x && not y) ≡ x
 sure true y e = ap not e
 sure false y e = refl
