@@ -6,7 +6,8 @@ use network::End;
 
 mod cables;
 
-// How many boards there are, and the far end of the cable at each port. Every cable stands at both its ends.
+// How many boards there are, and the far end of the cable at each port. Every cable stands at both its ends. A fixed table, since
+// the subject sets its bounds; it has no model, whose value would be a function of boards and ports and have no code.
 #[derive(Drop)]
 pub(crate) struct Cabling {
     n: u32,

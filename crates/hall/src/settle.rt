@@ -9,7 +9,7 @@ use pickers::Picker;
 use sets::{Members, with};
 
 impl<L: Length> Hall<L> {
-    // These boards, this one and its neighbours.
+    // These boards, this one and its neighbours. A `for`: a port is asked for, and nothing indexed.
     fn with_neighbours(&self, set: u64, board: u32) -> u64
         ensures { Reaches self.now set board 8 result }
     {

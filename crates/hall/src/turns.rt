@@ -11,7 +11,7 @@ use rules::{Record, Verdict as Rule};
 use sets::{Members, least_from, size};
 
 impl Tally {
-    // One move more by this rule.
+    // One move more by this rule: a sum in each arm, where a `&mut` chosen by the match would want one name more.
     fn count(&mut self, rule: Rule)
         ensures { (v : Verdict) → count_of self.new v ≡ counted (count_of self.old v) (Some rule) v }
     {

@@ -5,7 +5,7 @@ use hall::Hall;
 use lengths::Length;
 use std::alloc::AllocError;
 
-// Writes a line for each board; a hall has at most 64.
+// Writes a line for each board; a hall has at most 64. No `Display` of a hall: its lines are a script's way to show it.
 pub(crate) fn show<L: Length>(out: &mut String, hall: &Hall<L>) -> Result<(), AllocError>
     ensures { OnOk result (Appends (ShownFrom L.Length.meaning hall.now 0) (string_bytes out.old) (string_bytes out.new)) }
 {
