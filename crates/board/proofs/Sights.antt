@@ -15,7 +15,8 @@ use Rattle.frames.specs.Record.{body_of, Fields, code_in, Reads}
 use Rattle.frames.specs.declared.fault.FrameFault.{FrameFault}
 use Rattle.frames.specs.declared.sent.Sent.{Sent}
 use Rattle.frames.proofs.Bytes.{at_drop}
-use Rattle.frames.proofs.Records.{status_back, code_written, fields_written}
+use Rattle.rules.proofs.Statuses.{status_back}
+use Rattle.frames.proofs.Records.{code_written, fields_written}
 use Rattle.board.specs.Hear.{slot_at}
 use Rattle.board.specs.Move.{legible, shown_by, sight, seen_in, MovesAs, HearsEnd, AsInHall}
 use Rattle.board.specs.Station.{weight_at, length_or, own_of, Stands}

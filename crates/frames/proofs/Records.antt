@@ -5,6 +5,7 @@ use native.Mathlib.Decide.{dec_lt}
 use Rattle.std.proofs.lemmas.List.{drop-drop, get_or-drop, get_or_past, length-drop}
 use Rattle.std.proofs.lemmas.Nat.{le_bytes_8, from_le_bytes-to_le_bytes_8}
 use Rattle.lengths.specs.Kind.{Kind, Laws}
+use Rattle.rules.proofs.Statuses.{same_status}
 use Rattle.rules.specs.Status.{number_of, status_of}
 use Rattle.rules.specs.declared.record.Record.{Record}
 use Rattle.rules.specs.declared.status.Status.{Status}
@@ -21,21 +22,11 @@ status_small C = omega arith
 status_small EB = omega arith
 status_small EF = omega arith
 
--- a status is that of its number
-pub status_back : (s : Status) → status_of (number_of s) ≡ s
-status_back I = refl
-status_back C = refl
-status_back EB = refl
-status_back EF = refl
-
 pub status_of_any : (n : ℕ) → n ≤ 3 → number_of (status_of n) ≡ n
 status_of_any zero h = refl
 status_of_any (suc zero) h = refl
 status_of_any (suc (suc zero)) h = refl
 status_of_any (suc (suc (suc n))) h = omega arith
-
-pub same_status : (s t : Status) → number_of s ≡ number_of t → s ≡ t
-same_status s t e = sym (status_back s) ∙ (ap status_of e ∙ status_back t)
 
 -- the bytes of the code in a frame are those of the number that stands there
 code_bytes : (frame : List ℕ) → length frame ≡ 16 → ((i : ℕ) → i < 16 → get_or frame i 0 < 256) → eight_bytes (code_in frame) ≡ drop 8 frame

@@ -3,7 +3,8 @@ use Rattle.std.proofs.Common.{◌≡◌, ℕ, Bool, true, false, cond, not, ◌&
 use borrow.Author.Tests.{eqb-false, not-true, not-false, both_ways}
 use Rattle.lengths.specs.Kind.{Kind}
 use Rattle.rules.specs.Rules.{abnormal, adrift, misfit, short, offered, shows, Offers, ChildrenEF}
-use Rattle.rules.specs.Status.{same, number_of, status_of}
+use Rattle.rules.proofs.Statuses.{same_status}
+use Rattle.rules.specs.Status.{same, number_of}
 use Rattle.rules.specs.declared.neighbourhood.Seen.{Seen}
 use Rattle.rules.specs.declared.record.Record.{Record}
 use Rattle.rules.specs.declared.status.Status.{Status}
@@ -44,15 +45,8 @@ nothing e f = let z : ◌≡◌ {A = ℕ} 0 1 = cc in omega arith
 pub only : {A : Type 0} {a b : A} {o : Option A} → o ≡ Some a → o ≡ Some b → a ≡ b
 only e f = cc
 
--- a status is that of its number
-read_status : (s : Status) → status_of (number_of s) ≡ s
-read_status I = refl
-read_status C = refl
-read_status EB = refl
-read_status EF = refl
-
 pub same_true : (s t : Status) → same s t ≡ true → s ≡ t
-same_true s t e = sym (read_status s) ∙ ap status_of (eqb-true _ _ e) ∙ read_status t
+same_true s t e = same_status s t (eqb-true _ _ e)
 
 pub same_false : (s t : Status) → same s t ≡ false → s ≡ t → ⊥
 same_false s t e f = eqb-false _ _ e (ap number_of f)
