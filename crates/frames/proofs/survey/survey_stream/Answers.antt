@@ -1,11 +1,8 @@
 use Rattle.std.proofs.Common.{◌≡◌, Some, refl, ap, subst, arith}
 use Rattle.frames.specs.Reading.{Steps, one_record, one_unknown}
 use Rattle.frames.specs.Stream.{ended, stopped, told_of}
-use Rattle.frames.proofs.Surveys.{counting_none, counting_more, counted_all}
+use Rattle.frames.proofs.Surveys.{counting_more, counted_all}
 use Rattle.frames.proofs.survey.survey_stream.Goals as goal
-
-pub loop-step-init : goal.loop-step-init
-loop-step-init g c = counting_none g.L.Length.lawful _ _ c.default-survey.result c.new-reader.ensures c.default-survey.ensures
 
 pub loop-step-preserved-in-Ok-Record : goal.loop-step-preserved-in-Ok-Record
 loop-step-preserved-in-Ok-Record g c =
