@@ -20,7 +20,7 @@ pub(crate) fn check_frame<L: Length>(bytes: &[u8]) -> Result<(), EarFault>
     Ok(())
 }
 
-// Puts a frame into the slot of a port.
+// Puts a frame into the slot of a port, which is one slice of sixteen bytes.
 fn put_frame(ear: &mut [u8; 128], port: u32, frame: &[u8])
     requires room { port < 8 }
     requires frame { length frame.now ≡ 16 }
@@ -32,7 +32,7 @@ fn put_frame(ear: &mut [u8; 128], port: u32, frame: &[u8])
 
 impl<L: Length> Listening<L> {
     // Hears the record frame that came in at a port: puts it into the port's slot of the ear. The ear is looked at first, then
-    // the port, then the frame.
+    // the port, then the frame; each refusal hands the board back, and a `?` or a `map_err` would take it from the next check.
     pub fn hear(
         self,
         ear: &mut [u8],

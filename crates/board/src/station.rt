@@ -5,9 +5,9 @@ use crate::ports::Ports;
 use lengths::Length;
 use rules::{Record, Status};
 
-// A board in numbers: whether it is the root, its record with the length by its code, and its ports. The record of a root is
-// not read. It stands beside the flag all the same, and in no `Option`: status, par and code are three plain number fields of
-// every board, as the fixed form of a board end's states has them.
+// A board end's fields: whether it is the root, its record with the length by its code, and its ports. The record of a root is
+// not read. It stands beside the flag all the same, and in no `Option`: status, par and code are three plain fields of every
+// board, as the fixed form of a board end's states has them.
 #[derive(Clone, Copy)]
 pub(crate) struct Station {
     pub(crate) root: bool,

@@ -26,7 +26,7 @@ fn deliver(rt: &HostRuntime, floor: Floor) -> io::Result<Floor> {
     Ok([server, one, two, three])
 }
 
-// The hall's boards, two of them isolated. The second starts from garbage: a length that no way has.
+// The hall's boards, two of them isolated. Board 2 starts from garbage: a length that no way has.
 fn set_up() -> Result<Floor, EarFault> {
     Ok([
         Seat::begin(0, Status::I, 0, 0, [Some(40), Some(200)])?,

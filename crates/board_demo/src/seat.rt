@@ -11,6 +11,7 @@ pub(crate) struct Seat {
     pub(crate) number: u32,
     pub(crate) board: Listening<Metres>,
     pub(crate) moved: bool,
+    // the size that a board end's ear has
     ear: [u8; 128],
     told: Option<Vec<u8>>,
 }

@@ -24,6 +24,7 @@ pub fn write_frame<L: Length>(record: Record<L>, port: u8) -> Option<[u8; 16]>
     let status = u8::from(record.status);
     let par = record.par;
     let [a, b, c, d, e, f, g, h] = record.length.code().to_le_bytes();
+    // The head is written out, as the whole frame is: length 16, and the kind of a record.
     Some([16, 0, 1, 0, status, par, port, 0, a, b, c, d, e, f, g, h])
 }
 

@@ -6,8 +6,8 @@ use lengths::Length;
 use rules::Plan;
 use sets::{Members, with, without};
 
-// How each board would move, as it was last judged. A table that is filled in place, apart from the set of enabled boards: a turn
-// judges just its own set, and a settle takes over what it had.
+// How each board would move, as it was last judged. A table of fixed size, for the 64 boards that a hall can have; it is filled in
+// place, apart from the set of enabled boards: a turn judges just its own set, and a settle takes over what it had.
 #[derive(Drop)]
 pub(crate) struct Plans {
     pub(crate) of: [Option<Plan>; 64],

@@ -15,7 +15,7 @@ impl<L: Length> Hall<L> {
     {
         let mut near = set;
         for port in 0..8 {
-            // A free port adds the board itself, which is cheaper than a jump.
+            // A free port adds the board itself, which is in the set already or does no harm: one step for every port.
             let end = self.cabling.far(board, port);
             near = with(near, end.map_or(board, |end| u32::from(end.board)));
         }

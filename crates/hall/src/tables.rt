@@ -38,7 +38,7 @@ pub struct Tally {
     pub rejoined: u64,
 }
 
-// A hall whose lengths are of the kind L.
+// A hall whose lengths are of the kind L. Its tables are fixed, since the subject sets 64 boards: no call can want memory.
 #[derive(Drop)]
 pub struct Hall<L> {
     pub(crate) cabling: Cabling,

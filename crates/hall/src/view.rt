@@ -22,7 +22,7 @@ pub(crate) fn record_at<L: Length>(records: &[Record<L>], board: u32) -> Record<
     requires { board < length records.now }
     ensures { result ≡ rec_of L.Length.meaning records.now board }
 {
-    // Read first, so that the choice needs no jump.
+    // The table has a place for board 0 too, so each board is one look.
     let stored = records[board as usize];
     if board == 0 { Record::root() } else { stored }
 }

@@ -65,7 +65,7 @@ pub fn number(word: &[u8]) -> Option<u32>
     if word.is_empty() || word.len() > DIGITS {
         return None;
     }
-    // No `parse`, which takes a sign too, and no `try_fold`: that its closure's product fits stays unproved.
+    // No `parse`, which takes a sign too, and no `try_fold`: that its closure's product fits, and what is returned, stayed open.
     let mut value: u64 = 0;
     for b in word {
         let digit = char::from(*b).to_digit(10)?;
