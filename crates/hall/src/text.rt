@@ -1,9 +1,11 @@
-ghost use Rattle.std.specs.Prelude.{Some};
+ghost use Rattle.std.specs.Prelude.{◌≡◌, Some};
 ghost use Rattle.hall.specs.Texts.{tally_text, look_text};
+ghost use Rattle.rules.specs.Texts.{verdict_name};
 
 use crate::questions::Look;
 use crate::tables::Tally;
 use lengths::Length;
+use rules::Verdict;
 use std::fmt;
 
 // The counts in the order RC REB REF RI RR.
@@ -22,14 +24,19 @@ impl fmt::Display for Tally {
     }
 }
 
+// The word of a verdict, or a sign that there is none.
+fn verdict_word(verdict: Option<Verdict>) -> &'static str
+    ensures { result.now ≡ verdict_name verdict }
+{
+    verdict.map_or("-", Verdict::word)
+}
+
 // The record and the verdict, or `-` where there is none.
 impl<L: Length> fmt::Display for Look<L> {
     ghost output = { λ look. Some (look_text L.Length.meaning look) };
 
     fn fmt<W: fmt::Write>(&self, f: &mut fmt::Formatter<W>) -> fmt::Result {
-        match self.verdict {
-            Some(verdict) => write!(f, "{} {verdict}", self.record),
-            None => write!(f, "{} -", self.record),
-        }
+        let verdict = verdict_word(self.verdict);
+        write!(f, "{} {verdict}", self.record)
     }
 }

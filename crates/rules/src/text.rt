@@ -1,4 +1,4 @@
-ghost use Rattle.std.specs.Prelude.{Some};
+ghost use Rattle.std.specs.Prelude.{◌≡◌, Some};
 ghost use Rattle.rules.specs.Texts.{status_name, rule_name, record_text};
 
 use crate::record::Record;
@@ -7,17 +7,41 @@ use crate::verdict::Verdict;
 use lengths::Length;
 use std::fmt;
 
+impl Status {
+    // The word of a status. A function beside what prints it: each status has its word, which no `Display` promises.
+    fn word(self) -> &'static str
+        ensures { result.now ≡ status_name self }
+    {
+        match self {
+            Status::I => "I",
+            Status::C => "C",
+            Status::EB => "EB",
+            Status::EF => "EF",
+        }
+    }
+}
+
+impl Verdict {
+    // The word of a rule.
+    pub fn word(self) -> &'static str
+        ensures { result.now ≡ rule_name self }
+    {
+        match self {
+            Verdict::RC => "RC",
+            Verdict::REB => "REB",
+            Verdict::REF => "REF",
+            Verdict::RI => "RI",
+            Verdict::RR => "RR",
+        }
+    }
+}
+
 // A status by its word.
 impl fmt::Display for Status {
     ghost output = { λ s. Some (status_name s) };
 
     fn fmt<W: fmt::Write>(&self, f: &mut fmt::Formatter<W>) -> fmt::Result {
-        f.write_str(match self {
-            Status::I => "I",
-            Status::C => "C",
-            Status::EB => "EB",
-            Status::EF => "EF",
-        })
+        f.write_str(self.word())
     }
 }
 
@@ -26,13 +50,7 @@ impl fmt::Display for Verdict {
     ghost output = { λ v. Some (rule_name v) };
 
     fn fmt<W: fmt::Write>(&self, f: &mut fmt::Formatter<W>) -> fmt::Result {
-        f.write_str(match self {
-            Verdict::RC => "RC",
-            Verdict::REB => "REB",
-            Verdict::REF => "REF",
-            Verdict::RI => "RI",
-            Verdict::RR => "RR",
-        })
+        f.write_str(self.word())
     }
 }
 
