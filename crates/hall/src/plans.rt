@@ -36,7 +36,7 @@ impl<L: Length> Hall<L> {
     }
 
     // How a board would move; board 0, and what is no board of the hall, would not.
-    pub(crate) fn plan_at(&self, board: u32) -> Option<Plan>
+    fn plan_at(&self, board: u32) -> Option<Plan>
         ensures { PlanIn L.Length.meaning self.now board result }
     {
         let around = self.ruled(board)?;

@@ -7,7 +7,7 @@ use crate::plans::Plans;
 use crate::tables::{Hall, Tally};
 use crate::view::record_at;
 use lengths::Length;
-use rules::{Plan, Record, Status, Verdict};
+use rules::{Record, Status, Verdict};
 
 // A board's record, its verdict, and whether it is an alive abnormal root.
 #[derive(Clone, Copy)]
@@ -32,7 +32,8 @@ impl<L: Length> Hall<L> {
     fn verdict_at(&self, board: u32) -> Option<Verdict>
         ensures { IsVerdict L.Length.meaning self.now board result }
     {
-        self.plan_at(board).map(Plan::verdict)
+        let around = self.ruled(board)?;
+        around.board().verdict()
     }
 
     // Whether a board is an abnormal root that is C or EB; board 0 is none.
