@@ -4,6 +4,14 @@ use lengths::Metres;
 use rules::Status;
 use std::io;
 
+// What a board told: an output that holds a frame for every port, and how many of its bytes were told. Fixed memory, as a board
+// end has it, so that a telling wants none.
+#[derive(Clone, Copy)]
+struct Told {
+    out: [u8; 128],
+    size: usize,
+}
+
 // A board at its place: its number, what it hears with, whether it moved last,
 // and the frames that it told last, if it has told any.
 #[derive(Drop)]
@@ -13,7 +21,7 @@ pub(crate) struct Seat {
     pub(crate) moved: bool,
     // the size that a board end's ear has
     ear: [u8; 128],
-    told: Option<Vec<u8>>,
+    told: Option<Told>,
 }
 
 // The board moves, tells its record, and says what it did; the answer also says whether it had a verdict.
@@ -21,7 +29,7 @@ fn go(
     rt: &HostRuntime,
     number: u32,
     ready: Ready<'_, Metres>,
-) -> io::Result<(Listening<Metres>, bool, Vec<u8>)> {
+) -> io::Result<(Listening<Metres>, bool, Told)> {
     let owing = ready.advance();
     let verdict = owing.verdict();
     let own = owing.own();
@@ -33,7 +41,7 @@ fn go(
         None => print!(rt; "no verdict")?,
     }
     println!(rt; ", tells {own} in {size} bytes")?;
-    Ok((board, verdict.is_some(), out[..size].to_vec(rt.alloc())?))
+    Ok((board, verdict.is_some(), Told { out, size }))
 }
 
 // Whether a frame tells a record that left by this port.
@@ -91,8 +99,9 @@ impl Seat {
         let Some(told) = &self.told else {
             return write_frame(self.board.own(), port);
         };
-        let (frames, _) = told.as_chunks::<16>();
-        frames.iter().copied().find(|frame| left_by(frame, port))
+        let (frames, _) = told.out.as_chunks::<16>();
+        let mut told = frames.iter().take(told.size / 16).copied();
+        told.find(|frame| left_by(frame, port))
     }
 
     // The board hears a frame at a port, and says so.
