@@ -29,11 +29,11 @@ status_of_any (suc (suc zero)) h = refl
 status_of_any (suc (suc (suc n))) h = omega arith
 
 -- the bytes of the code in a frame are those of the number that stands there
-code_bytes : (frame : List ℕ) → length frame ≡ 16 → ((i : ℕ) → i < 16 → get_or frame i 0 < 256) → eight_bytes (code_in frame) ≡ drop 8 frame
+code_bytes : (frame : List ℕ) → length frame ≡ 16 → ((i : ℕ) → 8 ≤ i → i < 16 → get_or frame i 0 < 256) → eight_bytes (code_in frame) ≡ drop 8 frame
 code_bytes frame long small =
     let at : (i : ℕ) → get_or (drop 8 frame) i 0 ≡ get_or frame (8 + i) 0 = λ i. get_or-drop 8 frame i 0 in
     let below : (i : ℕ) → get_or (drop 8 frame) i 0 < 256 =
-    λ i. rw (at i) (by_cases (dec_lt (8 + i) 16) (small (8 + i)) (λ past. rw (get_or_past frame (8 + i) 0 (omega arith)) (omega arith))) in
+    λ i. rw (at i) (by_cases (dec_lt (8 + i) 16) (small (8 + i) (omega arith)) (λ past. rw (get_or_past frame (8 + i) 0 (omega arith)) (omega arith))) in
     le_bytes_8 (drop 8 frame) (code_in frame) (omega (arith, length-drop 8 frame)) below (omega (arith, at 0, at 1, at 2, at 3, at 4, at 5, at 6, at 7))
 
 module _ {V : Type 0} {k : Kind V} (laws : Laws k) where
@@ -44,8 +44,8 @@ module _ {V : Type 0} {k : Kind V} (laws : Laws k) where
       let r = ap k.decoded e in
       cc
 
-  -- fields that can be read are the body of a record
-  pub body_read : (frame : List ℕ) → length frame ≡ 16 → ((i : ℕ) → i < 16 → get_or frame i 0 < 256) → Fields frame → (s : Status) → number_of s ≡ get_or frame 4 0 → (v : V) → k.decoded (code_in frame) ≡ Some v → drop 4 frame ≡ body_of k (record { status = s; par = get_or frame 5 0; length = v }) (get_or frame 6 0)
+  -- fields that can be read are the body of a record, where the bytes of the code are below 256
+  pub body_read : (frame : List ℕ) → length frame ≡ 16 → ((i : ℕ) → 8 ≤ i → i < 16 → get_or frame i 0 < 256) → Fields frame → (s : Status) → number_of s ≡ get_or frame 4 0 → (v : V) → k.decoded (code_in frame) ≡ Some v → drop 4 frame ≡ body_of k (record { status = s; par = get_or frame 5 0; length = v }) (get_or frame 6 0)
   body_read frame long small f s number v e =
       let at : (i : ℕ) → get_or (drop 4 frame) i 0 ≡ get_or frame (4 + i) 0 = λ i. get_or-drop 4 frame i 0 in
       let parts = headed (drop 4 frame) (omega (arith, length-drop 4 frame)) in

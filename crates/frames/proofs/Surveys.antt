@@ -58,12 +58,16 @@ module _ {V : Type 0} {k : Kind V} (laws : Laws k) where
       }
 
   -- at the end all was counted
-  pub counted_all : (bytes : List ℕ) (r : Reader V) (e : End) (s : Survey) (stop : Option Fault) → Counting k bytes r s → Stands k r.place (left r) [] e → stop ≡ fault_at e → Surveyed k bytes (record s { stop = stop })
-  counted_all bytes r e s stop c x f =
+  pub counted_all : (bytes : List ℕ) (e : End) (s : Survey) → Counted k bytes [] e s → s.stop ≡ fault_at e → Surveyed k bytes s
+  counted_all bytes e s c f = record {
+    meant = record { items = c.items; end = e; stands = c.stands; only = λ ts d q. unique laws ts c.items 0 bytes d e q c.stands };
+    records_are = omega (arith, c.records_are);
+    unknown_are = omega (arith, c.unknown_are);
+    stop_is = f;
+  }
+
+  -- a reader that stands at the end has counted all, and the survey stops as the end says
+  pub counted_to_end : (bytes : List ℕ) (r : Reader V) (e : End) (s : Survey) (stop : Option Fault) → Counting k bytes r s → Stands k r.place (left r) [] e → stop ≡ fault_at e → Surveyed k bytes (record s { stop = stop })
+  counted_to_end bytes r e s stop c x f =
       let all = c.counted [] e x in
-      record {
-        meant = record { items = all.items; end = e; stands = all.stands; only = λ ts d q. unique laws ts all.items 0 bytes d e q all.stands };
-        records_are = omega (arith, all.records_are);
-        unknown_are = omega (arith, all.unknown_are);
-        stop_is = f;
-      }
+      counted_all bytes e (record s { stop = stop }) (record { items = all.items; stands = all.stands; records_are = all.records_are; unknown_are = all.unknown_are }) f

@@ -38,7 +38,7 @@ module _ {V : Type 0} {k : Kind V} (laws : Laws k) where
       let fields = fields_alike bytes frame back f in
       let number = status_of_any (get_or frame 4 0) fields.status in
       let told : Record V = record { status = status_of (get_or frame 4 0); par = get_or frame 5 0; length = v } in
-      let body = body_read laws frame long b fields told.status number v (ap k.decoded (code_alike frame bytes same) ∙ e) in
+      let body = body_read laws frame long (λ i _. b i) fields told.status number v (ap k.decoded (code_alike frame bytes same) ∙ e) in
       framed n (recorded (number_of told.status) told.par (get_or frame 6 0) (k.coded v)) (front_record k bytes _ small h.whole h.kind_is (record { told = told; length_is = long; own_port = fields.port; body = body; status_is = refl; par_is = refl; code_is = refl }))
 
   by_fields : (bytes : List ℕ) → Small bytes → RecordHead bytes → Dec (get_or bytes 4 0 ≤ 3) → Dec (get_or bytes 6 0 ≤ 7) → Dec (get_or bytes 7 0 ≡ 0) → Front k bytes

@@ -34,6 +34,14 @@ same_first stop a b r t bytes p q =
     q.1)
     p.1
 
+-- what follows the first stop is shorter than the whole
+pub first_shorter : (stop : ℕ) (front rest bytes : List ℕ) → First stop front rest bytes → 0 < length bytes → length rest < length bytes
+first_shorter stop front rest bytes f some =
+    ⊎_elim
+    (λ e. omega (arith, simp length-append at (ap length e)))
+    (λ e. omega (arith, ap length e.1))
+    f.1
+
 pub same_lines : (ks ls : List (List ℕ)) (script : List ℕ) → Lines ks script → Lines ls script → ks ≡ ls
 same_lines [] [] script p q = refl
 same_lines [] (l ∷ ls) script p q = absurd (omega (arith, ap length p, q.1.0))

@@ -22,4 +22,4 @@ returns g c =
     let fields : Fields frame = search rules in
     let status : number_of c.in_ok-status.status ≡ get_or frame 4 0 = search rules in
     let code : g.L.Length.meaning.decoded (code_in frame) ≡ Some c.in_ok-length.length = search rules in
-    accepts g.L.Length.lawful frame _ _ fields.port (body_read g.L.Length.lawful frame long small fields _ status _ code)
+    accepts g.L.Length.lawful frame _ _ fields.port (body_read g.L.Length.lawful frame long (λ i _. small i) fields _ status _ code)

@@ -1,7 +1,7 @@
 use Rattle.std.proofs.Common.{◌≡◌, Some, refl, ap, subst, arith}
 use Rattle.frames.specs.Reading.{Steps, one_record, one_unknown}
 use Rattle.frames.specs.Stream.{ended, stopped, told_of}
-use Rattle.frames.proofs.Surveys.{counting_more, counted_all}
+use Rattle.frames.proofs.Surveys.{counting_more, counted_to_end}
 use Rattle.frames.proofs.survey.survey_stream.Goals as goal
 
 pub loop-step-preserved-in-Ok-Record : goal.loop-step-preserved-in-Ok-Record
@@ -24,8 +24,8 @@ pub returns-in-Err : goal.returns-in-Err
 returns-in-Err g c =
     let f = c.in-Err.fault in
     let h = subst (λ s. Steps g.L.Length.meaning c.loop-step.reader (Some s) c.next.new.self) c.in-Err.is c.in-Some.ensures.step in
-    counted_all g.L.Length.lawful _ c.loop-step.reader (stopped f.fault f.place) c.loop-step.survey _ c.loop-step.invariant (h.place_is, h.more, h.why) refl
+    counted_to_end g.L.Length.lawful _ c.loop-step.reader (stopped f.fault f.place) c.loop-step.survey _ c.loop-step.invariant (h.place_is, h.more, h.why) refl
 
 pub returns-in_default : goal.returns-in_default
 returns-in_default g c =
-    counted_all g.L.Length.lawful _ c.loop-step.reader ended c.loop-step.survey _ c.loop-step.invariant c.in_default.ensures.step.0 c.loop-step.invariant.none
+    counted_to_end g.L.Length.lawful _ c.loop-step.reader ended c.loop-step.survey _ c.loop-step.invariant c.in_default.ensures.step.0 c.loop-step.invariant.none
