@@ -1,4 +1,4 @@
-use Rattle.std.proofs.Common.{◌+◌, string_bytes, sym, subst, rules}
+use Rattle.std.proofs.Common.{◌+◌, string_bytes, sym, subst, arith, rules}
 use Rattle.std.specs.Iterator.Adapters.{enumerate_source, enumerate_count}
 use Rattle.session.specs.Answers.{Answered}
 use Rattle.session.specs.Texts.{Appends}
@@ -15,7 +15,8 @@ loop-index-preserved c =
     let out = string_bytes c.loop-index.out in
     let written = string_bytes c.answer.new.out in
     let step = c.in-Some.ensures.steps in
-    let said = subst (λ n. Appends (Answered (n + 1) c.in-Some.line.now old new) out written) step.1 c.in_ok-answer.ensures in (
+    let said : Appends (Answered (count + 1) c.in-Some.line.now old new) out written =
+    subst (λ n. Appends (Answered n c.in-Some.line.now old new) out written) (omega (arith, step.1)) c.in_ok-answer.ensures in (
       search rules,
       search rules,
       subst (λ n. GoesOn c.args.script.now after.rest.now (n + 1) new written) (sym step.2)
