@@ -1,5 +1,5 @@
 -- What a slot shows, and that a board which is up to date sees what a hall shows it.
-use Rattle.std.proofs.Common.{◌≡◌, ℕ, ◌≤◌, Bool, true, false, cond, eqb, List, get_or, drop, Some, None, Option, Ok, Err, Result, sym, ap, ◌∙◌, subst, ap₂, arith, eq-eqb, eqb-true, le-leb}
+use Rattle.std.proofs.Common.{◌≡◌, ℕ, ◌≤◌, Bool, true, false, cond, ◌&&◌, eqb, leb, List, get_or, drop, Some, None, Option, Ok, Err, Result, sym, refl, ap, ◌∙◌, subst, ap₂, arith, eq-eqb, eqb-true, le-leb, leb-true}
 use borrow.Author.Tests.{both_ways}
 use Rattle.lengths.specs.Kind.{Kind, Laws}
 use Rattle.rules.specs.Rules.{Moves}
@@ -11,8 +11,9 @@ use Rattle.hall.specs.Hall.{MoveOn}
 use Rattle.hall.proofs.Verdicts.{move_of}
 use Rattle.std.specs.Result.{result_ok}
 use Rattle.rules.specs.Status.{status_of}
-use Rattle.frames.specs.Record.{body_of, Fields, code_in, Reads}
+use Rattle.frames.specs.Record.{body_of, Fields, code_in, Unreadable, Reads}
 use Rattle.frames.specs.declared.fault.FrameFault.{FrameFault}
+use Rattle.frames.specs.declared.fault.FrameFault.TheVariants.{Short, Extent, Size, Field, Code}
 use Rattle.frames.specs.declared.sent.Sent.{Sent}
 use Rattle.frames.proofs.Bytes.{at_drop}
 use Rattle.rules.proofs.Statuses.{status_back}
@@ -24,6 +25,17 @@ use Rattle.board.specs.declared.ports.Ports.{Ports}
 use Rattle.board.specs.declared.states.Owing.{Owing}
 use Rattle.board.specs.declared.states.Ready.{Ready}
 use Rattle.board.specs.declared.station.Station.{Station}
+
+-- legible fields are those of a record's frame
+legible_fields : (slot : List ℕ) (a b c : Bool) → leb (get_or slot 4 0) 3 ≡ a → leb (get_or slot 6 0) 7 ≡ b → eqb (get_or slot 7 0) 0 ≡ c → (a && (b && c)) ≡ true → Fields slot
+legible_fields slot true true true p q r e = record { status = leb-true _ _ p; port = leb-true _ _ q; blank = eqb-true _ _ r }
+legible_fields slot true true false p q r e = absurd (both_ways false refl e)
+legible_fields slot true false c p q r e = absurd (both_ways false refl e)
+legible_fields slot false b c p q r e = absurd (both_ways false refl e)
+
+if_legible : {T : Type 0} (b : Bool) (x y : Option T) → (b ≡ true → x ≡ y) → y ≡ None → cond b x None ≡ y
+if_legible true x y h e = h refl
+if_legible false x y h e = sym e
 
 -- the fields of a record's frame are legible
 fields_legible : (slot : List ℕ) → Fields slot → legible slot ≡ true
@@ -41,6 +53,17 @@ module _ {V : Type 0} {k : Kind V} (laws : Laws k) where
       ap (λ b. cond b (shown_by slot w (k.decoded (code_in slot))) None) ok
       ∙ ap (shown_by slot w) code
       ∙ (λ i. Some (record { status = s i; length = r.length; weight = w; named = eqb (p i) (o i) }))
+
+  -- a slot that cannot be read shows nothing
+  pub sight_none : (slot : List ℕ) (f : FrameFault) (w : ℕ) → Unreadable k slot f → sight k (Some w) slot ≡ None
+  sight_none slot Short w u = absurd u
+  sight_none slot Extent w u = absurd u
+  sight_none slot Size w u = absurd u
+  sight_none slot Field w u = if_legible (legible slot) _ None (λ ok. absurd (u (legible_fields slot _ _ _ refl refl refl ok))) refl
+  sight_none slot Code w u = if_legible (legible slot) _ None (λ ok. ap (shown_by slot w) u.1) refl
+
+  pub seen_none : (s : Ports) (ear slot : List ℕ) (p w : ℕ) (fault : FrameFault) → weight_at s p ≡ Some w → slot ≡ slot_at ear p → Unreadable k slot fault → None ≡ seen_in k s ear p
+  seen_none s ear slot p w fault e f u = sym (ap₂ (sight k) e (sym f) ∙ sight_none slot fault w u)
 
   -- what a port shows that is wired, and whose slot was read
   pub seen_told : (s : Ports) (ear slot : List ℕ) (p w : ℕ) (read : Result (Sent V) FrameFault) (sent : Sent V) → weight_at s p ≡ Some w → slot ≡ slot_at ear p → Reads k slot read → Some sent ≡ result_ok read → Some (record { status = sent.«record».status; length = sent.«record».length; weight = w; named = eqb sent.«record».par sent.port }) ≡ seen_in k s ear p

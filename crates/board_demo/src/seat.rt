@@ -4,8 +4,8 @@ use lengths::Metres;
 use rules::Status;
 use std::io;
 
-// What a board told: an output that holds a frame for every port, and how many of its bytes were told. Fixed memory, as a board
-// end has it, so that a telling wants none.
+// What a board told: an output with room for a frame at every port, and how many of its bytes were told. Its size is fixed, as an
+// ear's is, so that a telling allocates nothing.
 #[derive(Clone, Copy)]
 struct Told {
     out: [u8; 128],
@@ -99,9 +99,9 @@ impl Seat {
         let Some(told) = &self.told else {
             return write_frame(self.board.own(), port);
         };
-        let (frames, _) = told.out.as_chunks::<16>();
-        let mut told = frames.iter().take(told.size / 16).copied();
-        told.find(|frame| left_by(frame, port))
+        let (slots, _) = told.out.as_chunks::<16>();
+        let mut frames = slots.iter().take(told.size / 16).copied();
+        frames.find(|frame| left_by(frame, port))
     }
 
     // The board hears a frame at a port, and says so.

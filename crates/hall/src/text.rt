@@ -24,7 +24,7 @@ impl fmt::Display for Tally {
     }
 }
 
-// The word of a verdict, or a sign that there is none.
+// The word of a verdict, or a sign that there is none: it cannot fail either.
 fn verdict_word(verdict: Option<Verdict>) -> &'static str
     ensures { result.now ≡ verdict_name verdict }
 {

@@ -8,7 +8,7 @@ use lengths::Length;
 use std::fmt;
 
 impl Status {
-    // The word of a status. A function beside what prints it: each status has its word, which no `Display` promises.
+    // The word of a status, from a function that cannot fail: a `fmt` may answer an error, of which its contract says nothing.
     fn word(self) -> &'static str
         ensures { result.now ≡ status_name self }
     {
